@@ -1,0 +1,14 @@
+pub mod RingBasics
+pub mod RingPoly
+pub mod RingSolver
+pub mod PairLaws
+pub mod Norms
+pub mod FieldBasics
+pub mod Polynomials
+pub mod RootBound
+pub mod Powers
+pub mod CosetProduct
+pub mod CosetVanishing
+pub mod DomainLaws
+pub mod EachLemmas
+pub mod Interpolation

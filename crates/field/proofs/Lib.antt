@@ -1,0 +1,4 @@
+pub mod Combinations
+pub mod Lists
+pub mod RootOrder
+pub mod Squaring

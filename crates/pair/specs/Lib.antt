@@ -1,0 +1,3 @@
+pub mod BabyBearPairs
+pub mod Laws
+pub mod Pair

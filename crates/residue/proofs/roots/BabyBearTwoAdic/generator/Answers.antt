@@ -1,0 +1,6 @@
+use mathlib.Core.Path.{_∙_}
+use Rattle.residue.specs.Moduli.{residues-nat}
+use Rattle.residue.proofs.roots.BabyBearTwoAdic.generator.Needs as need
+
+pub returns : need.returns
+returns c = c .from-u32 .ensures ∙ residues-nat 31

@@ -1,0 +1,4 @@
+pub mod Laws
+pub mod Moduli
+pub mod Prime
+pub mod Residue
