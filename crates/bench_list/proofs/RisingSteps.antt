@@ -12,8 +12,6 @@ use lib.ListN.{length, getD, take}
 use Rattle.std.specs.shelf.Lists.{leading}
 use Rattle.std.specs.declared.option.Option.{Option}
 use Rattle.std.specs.declared.option.Option.the-variants.{Some, None}
-use Rattle.bench_list.specs.declared.breaks.Break.{Break}
-use Rattle.bench_list.specs.declared.breaks.Break.the-variants.{Duplicate, Fall}
 use Rattle.bench_list.specs.Rising.{Rising, differs, rises-at, broken, break-at, breaks-below}
 
 pub differs-yes : (n x : ℕ) → (x ≡ n → ⊥) → differs n x ≡ true
@@ -23,16 +21,10 @@ pub differs-no : (n x : ℕ) → x ≡ n → differs n x ≡ false
 differs-no n x h = ap (λ t. cond t false true) (eq-eqb x n h)
 
 module _ (xs : List ℕ) (row of : ℕ) (within : row < length xs) (falls : rises-at xs row ≡ false) (place : of ≡ leading (differs (getD xs row 0)) (take row xs)) where
-  is-broken : Some (broken row of) ≡ break-at xs row
+  pub is-broken : Some (broken row of) ≡ break-at xs row
   is-broken =
       ap (λ p. Some (broken row p)) place
       ∙ sym (ap₂ (λ s t. cond s (cond t None (Some (broken row (leading (differs (getD xs row 0)) (take row xs))))) None) (lt-ltb row (length xs) within) falls)
-
-  pub is-duplicate : of < row → Some (Duplicate row of) ≡ break-at xs row
-  is-duplicate h = sym (ap (λ t. Some (cond t (Duplicate row of) (Fall row))) (lt-ltb of row h)) ∙ is-broken
-
-  pub is-fall : row ≤ of → Some (Fall row) ≡ break-at xs row
-  is-fall h = sym (ap (λ t. Some (cond t (Duplicate row of) (Fall row))) (le-ltb of row h)) ∙ is-broken
 
 pub one-more-row : (xs : List ℕ) (n : ℕ) (t : Bool) → t ≡ rises-at xs n → breaks-below xs n + cond t 0 1 ≡ breaks-below xs (n + 1)
 one-more-row xs n t e = ap (λ u. breaks-below xs n + cond u 0 1) e ∙ ap (breaks-below xs) (sym (add-one n))

@@ -3,7 +3,7 @@ ghost use mathlib.Core.Path.{_≡_};
 ghost use Prim.Native.Nat.{_<_};
 ghost use lib.ListN.{length};
 ghost use Rattle.std.specs.shelf.Lists.{leading};
-ghost use Rattle.bench_list.specs.Rising.{Rising, differs, rises-at, break-at, breaks-below};
+ghost use Rattle.bench_list.specs.Rising.{Rising, differs, rises-at, broken, break-at, breaks-below};
 
 #[derive(Clone, Copy)]
 pub enum Break {
@@ -48,10 +48,17 @@ pub fn break_at(rows: &[u32], row: usize) -> Option<Break>
         return None;
     }
     let of = first_place(&rows[0..row], rows[row]);
+    Some(named(row, of))
+}
+
+// A row that does not rise, whose number stands first at `of`, which is an earlier row or none.
+fn named(row: usize, of: usize) -> Break
+    ensures { λ r. ⌜ r ≡ broken row of ⌝ }
+{
     if of < row {
-        return Some(Break::Duplicate { row, of });
+        return Break::Duplicate { row, of };
     }
-    Some(Break::Fall { row })
+    Break::Fall { row }
 }
 
 // How many rows are not above the one before: none exactly where the numbers rise.

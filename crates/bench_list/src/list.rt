@@ -2,6 +2,7 @@
 ghost use mathlib.Core.Path.{_≡_};
 ghost use Prim.Native.Nat.{_≤_};
 ghost use lib.ListN.{length};
+ghost use Rattle.std.specs.Vec.{made};
 ghost use Rattle.bench_list.specs.Lines.{lines-of, line-of};
 ghost use Rattle.bench_list.specs.Reading.{Read, reading, Stepped};
 use crate::lines;
@@ -16,7 +17,8 @@ pub enum ListFault {
 
 // Reads the rows into the front of `rows`, and answers how many there are; the first fault ends it.
 pub fn read_list(text: &[u8], rows: &mut [u32]) -> Result<usize, ListFault>
-    ensures { λ r. ⌜ Read (reading (length (now (rows .entry))) 1 (lines-of (now (text .entry)))) (now (rows .entry)) r (now (rows .exit)) ⌝ }
+    ensures read { λ r. ⌜ Read (reading (length (now (rows .entry))) 1 (lines-of (now (text .entry)))) (now (rows .entry)) r (now (rows .exit)) ⌝ }
+    ensures within { λ r. ⌜ made r (λ count. count ≤ length (now (rows .entry))) ⌝ }
 {
     let mut count = 0;
     let mut line = 1;

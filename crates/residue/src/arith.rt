@@ -1,10 +1,24 @@
 // Residues are a field.
 ghost use mathlib.Core.Path.{_≡_};
-ghost use Rattle.residue.specs.Residue.{residue-ops, residue-inverse};
+ghost use Rattle.residue.specs.Residue.{reduced, residue-ops, residue-inverse};
 ghost use Rattle.residue.specs.Laws.Residue.{residue-laws};
 use crate::Modulus;
 use crate::Residue;
 use field::traits::Field;
+
+impl<const P: u32> Residue<P>
+where
+    Self: Modulus<P>,
+{
+    // n modulo P
+    fn of(n: u64) -> Self
+        ensures { λ r. ⌜ r ≡ reduced P (prime .above-one) n ⌝ }
+    {
+        Residue {
+            value: (n % P as u64) as u32,
+        }
+    }
+}
 
 pub impl<const P: u32> Field for Residue<P> as ResidueField
 where
@@ -17,42 +31,31 @@ where
     ghost laws = { residue-laws P (prime .above-one) prime };
 
     fn zero() -> Self {
-        Residue { value: 0 }
+        Self::of(0)
     }
 
     fn one() -> Self {
-        Residue { value: 1 }
+        Self::of(1)
     }
 
     fn from_u32(n: u32) -> Self {
-        Residue { value: n % P }
+        Self::of(n as u64)
     }
 
     fn add(self, other: Self) -> Self {
-        let sum = self.value as u64 + other.value as u64;
-        Residue {
-            value: (sum % P as u64) as u32,
-        }
+        Self::of(self.value as u64 + other.value as u64)
     }
 
     fn neg(self) -> Self {
-        Residue {
-            value: (P - self.value) % P,
-        }
+        Self::of((P - self.value) as u64)
     }
 
     fn sub(self, other: Self) -> Self {
-        let sum = self.value as u64 + (P - other.value) as u64;
-        Residue {
-            value: (sum % P as u64) as u32,
-        }
+        self.add(other.neg())
     }
 
     fn mul(self, other: Self) -> Self {
-        let product = self.value as u64 * other.value as u64;
-        Residue {
-            value: (product % P as u64) as u32,
-        }
+        Self::of(self.value as u64 * other.value as u64)
     }
 
     // While self * found is left modulo P, the next left is P % left.

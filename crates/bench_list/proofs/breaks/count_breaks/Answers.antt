@@ -15,8 +15,8 @@ loop-row-again c =
     let row = c .loop-row .row in
     let more = one-more-row xs row (c .rises .result) (c .rises .ensures) in
     elim (c .if-not-rises .came) [
-      then-not-rises w ↦ (omega (arith, w .count-is, c .loop-row .inv .0), omega (arith, w .count-is, c .loop-row .inv .1, more, ap (λ t. cond {A = ℕ} t 0 1) (w .if-not-rises .taken)))
-    | else-not-rises w ↦ (omega (arith, w .count-is, c .loop-row .inv .0), omega (arith, w .count-is, c .loop-row .inv .1, more, ap (λ t. cond {A = ℕ} t 0 1) (w .if-not-rises .left)))
+      | then-not-rises w ↦ (omega (arith, w .count-is, c .loop-row .inv .0), omega (arith, w .count-is, c .loop-row .inv .1, more, ap (λ t. cond {A = ℕ} t 0 1) (w .if-not-rises .taken)))
+      | else-not-rises w ↦ (omega (arith, w .count-is, c .loop-row .inv .0), omega (arith, w .count-is, c .loop-row .inv .1, more, ap (λ t. cond {A = ℕ} t 0 1) (w .if-not-rises .left)))
     ]
 
 pub returns : need.returns

@@ -22,12 +22,13 @@ pub returns-in-Break-count : need.returns-in-Break-count
 returns-in-Break-count c =
     let p = err-from-errBy (c .from-residual .result) (c .from-residual .ensures .1) in
     let lines = some-lines (c .args .text .now) (c .lines .at) (c .line-end-end .result) (c .lines .inv .0) (c .line-end-end .ensures) in
-    rw (p .1, p .2) (line-taken _ _ _ _ _ _ (lines .0) _ _ _ (lines .1) (c .lines .inv .2) (c .in-Break-count .ensures tt))
+    rw (p .1, p .2) (record { read = line-taken _ _ _ _ _ _ (lines .0) _ _ _ (lines .1) (c .lines .inv .2) (c .in-Break-count .ensures tt); within = tt })
 
 pub returns-then-end-text : need.returns-then-end-text
 returns-then-end-text c =
     let is-last = last-line (c .args .text .now) (c .lines .at) (c .line-end-end .result) (c .lines .inv .0) (c .line-end-end .ensures) (c .if-end-text .taken) in
-    done _ _ _ _ (line-taken _ _ _ _ _ _ [] _ (Ok (c .in-Continue-count .count)) _ is-last (c .lines .inv .2) (c .in-Continue-count .ensures tt))
+    let going = line-taken _ _ _ _ _ _ [] _ (Ok (c .in-Continue-count .count)) _ is-last (c .lines .inv .2) (c .in-Continue-count .ensures tt) in
+    record { read = done _ _ _ _ going; within = going .few }
 
 pub lines-again : need.lines-again
 lines-again c =

@@ -1,6 +1,6 @@
 use mathlib.Core.Path.{refl}
 use Rattle.residue.specs.Laws.Residue.{same-value}
-use Rattle.residue.proofs.arith.ResidueField.mul.Needs as need
+use Rattle.residue.proofs.Residue.of.Needs as need
 
 pub returns : need.returns
 returns g c = same-value _ _ refl

@@ -1,0 +1,3 @@
+// Worked examples of the library, run as tests.
+mod fields;
+mod lists;
