@@ -1,0 +1,5 @@
+pub mod Logarithm
+pub mod Nonzero
+pub mod Periodic
+pub mod Pieces
+pub mod Selected
