@@ -3,3 +3,4 @@ pub mod Nonzero
 pub mod Periodic
 pub mod Pieces
 pub mod Selected
+pub mod Split

@@ -2,4 +2,5 @@
 pub mod periodic;
 pub mod powers;
 pub mod selectors;
+pub mod split;
 pub mod traits;
