@@ -40,6 +40,14 @@ module _ {F E : Type 0} (t : Turns F) (laws : FieldLaws (t .ops) (t .inverse)) (
   abbrev back : F
   back = total (t .ops) (t .inverse) (step-of t d)
 
+  -- the selectors of V, u and 1/g
+  pub chosen-is : {a b c i : E} → a ≡ v → b ≡ u → c ≡ e back
+      → _≡_ {A = Selectors E}
+      (record { first = a ⊗ total o above (sub o b 𝟙); last = a ⊗ total o above (sub o b c); transition = sub o b c; inverse = i })
+      (record { first = first-of t o above e d z; last = last-of t o above e d z; transition = transition-of t o above e d z; inverse = i })
+  chosen-is {i = i} p q r =
+      λ j. record { first = p j ⊗ total o above (sub o (q j) 𝟙); last = p j ⊗ total o above (sub o (q j) (r j)); transition = sub o (q j) (r j); inverse = i }
+
   vanishes-at : (x : E) → pow o x (2 ^ bits-of t d) ≡ 𝟙 → u ≡ x → v ≡ 𝟘
   vanishes-at x one same =
       ap (λ y. sub o (pow o y (2 ^ bits-of t d)) 𝟙) same

@@ -6,6 +6,8 @@ ghost use Prim.Native.Nat.{ℕ, _^_};
 ghost use Rattle.cosets.specs.Coset.{turns, placed, natural-of, Divided, shift-of, bits-of, step-of, points-of, scale-of, turned-of, transition-of, vanish-of, first-of, last-of, following-of, beside-of, pieces-of};
 ghost use Rattle.std.specs.declared.option.Option.the-variants.{Some};
 ghost use Rattle.algebra.specs.Domain.{coset as turned-points};
+ghost use Rattle.algebra.specs.Field.{total};
+ghost use Rattle.algebra.specs.Ring.{sub};
 ghost use Rattle.domain.specs.Selected.{selected};
 ghost use Rattle.field.specs.TwoAdic.{root};
 use crate::Coset;
@@ -90,14 +92,21 @@ pub fn selectors<F: TwoAdic, E: Extension<F>>(d: Coset<F, E>, z: E) -> Option<Se
 {
     let v = vanish(d, z);
     let inverse = v.inverse()?;
-    let u = turned(d, z);
-    let transition = u.sub(E::embed(powers::inverse_or_zero(step(d))));
-    Some(Selectors {
+    let back = E::embed(powers::inverse_or_zero(step(d)));
+    Some(chosen(v, turned(d, z), back, inverse))
+}
+
+// V / (u - 1), V / (u - back), u - back and the inverse of V.
+fn chosen<E: Field>(v: E, u: E, back: E, inverse: E) -> Selectors<E>
+    ensures { λ r. ⌜ r ≡ record { first = ops .mul v (total ops inverted (sub ops u (ops .one))); last = ops .mul v (total ops inverted (sub ops u back)); transition = sub ops u back; inverse = inverse } ⌝ }
+{
+    let transition = u.sub(back);
+    Selectors {
         first: v.mul(powers::inverse_or_zero(u.sub(E::one()))),
         last: v.mul(powers::inverse_or_zero(transition)),
         transition,
         inverse,
-    })
+    }
 }
 
 pub impl<F: TwoAdic, E: Extension<F>> Domain for Coset<F, E> as CosetDomain {
