@@ -1,3 +1,4 @@
 // Worked examples of the library, run as tests.
+pub mod domains;
 mod fields;
 mod lists;

@@ -1,0 +1,2 @@
+pub mod ProgressionLaws
+pub mod Terms
