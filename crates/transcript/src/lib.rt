@@ -1,0 +1,5 @@
+pub mod absorb;
+pub mod challenge;
+pub mod failure;
+pub mod seed;
+pub mod shape;
