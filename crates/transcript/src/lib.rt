@@ -1,5 +1,6 @@
 pub mod absorb;
 pub mod challenge;
 pub mod failure;
+pub mod phases;
 pub mod seed;
 pub mod shape;
