@@ -84,8 +84,8 @@ impl ProverStart {
     pub fn abort(self) -> StarkShape
         ensures { λ r. ⌜ r ≡ self .shape ⌝ }
     {
-        let ProverStart { shape } = self;
-        shape
+        let ProverStart { shape: left } = self;
+        left
     }
 }
 
@@ -111,8 +111,8 @@ impl ProverMid {
     pub fn abort(self) -> StarkShape
         ensures { λ r. ⌜ r ≡ self .shape ⌝ }
     {
-        let ProverMid { shape } = self;
-        shape
+        let ProverMid { shape: left } = self;
+        left
     }
 }
 
@@ -128,8 +128,8 @@ impl ProverReady {
     pub fn abort(self) -> StarkShape
         ensures { λ r. ⌜ r ≡ self .shape ⌝ }
     {
-        let ProverReady { shape } = self;
-        shape
+        let ProverReady { shape: left } = self;
+        left
     }
 }
 

@@ -83,8 +83,8 @@ impl VerifierStart {
     pub fn abort(self) -> StarkShape
         ensures { λ r. ⌜ r ≡ self .shape ⌝ }
     {
-        let VerifierStart { shape } = self;
-        shape
+        let VerifierStart { shape: left } = self;
+        left
     }
 }
 
@@ -109,8 +109,8 @@ impl VerifierMid {
     pub fn abort(self) -> StarkShape
         ensures { λ r. ⌜ r ≡ self .shape ⌝ }
     {
-        let VerifierMid { shape } = self;
-        shape
+        let VerifierMid { shape: left } = self;
+        left
     }
 }
 
@@ -126,8 +126,8 @@ impl VerifierReady {
     pub fn abort(self) -> StarkShape
         ensures { λ r. ⌜ r ≡ self .shape ⌝ }
     {
-        let VerifierReady { shape } = self;
-        shape
+        let VerifierReady { shape: left } = self;
+        left
     }
 }
 

@@ -6,7 +6,7 @@ use field::traits::PrimeField;
 use sponge::Sponge;
 
 // Two halves, the high one first.
-pub fn take_commitment<S: Sponge>(sponge: &mut S, commitment: u64)
+pub(crate) fn take_commitment<S: Sponge>(sponge: &mut S, commitment: u64)
     ensures { λ _. ⌜ now (sponge .exit) ≡ commit steps commitment (now (sponge .entry)) ⌝ }
 {
     sponge.take((commitment >> 32) as u32);
@@ -14,7 +14,7 @@ pub fn take_commitment<S: Sponge>(sponge: &mut S, commitment: u64)
 }
 
 // Eight bytes, big-endian.
-pub fn take_number<S: Sponge>(sponge: &mut S, n: u64)
+pub(crate) fn take_number<S: Sponge>(sponge: &mut S, n: u64)
     ensures { λ _. ⌜ now (sponge .exit) ≡ takes steps (be8 n) (now (sponge .entry)) ⌝ }
 {
     sponge.take((n >> 56) as u32 % 256);
@@ -27,7 +27,7 @@ pub fn take_number<S: Sponge>(sponge: &mut S, n: u64)
     sponge.take((n % 256) as u32);
 }
 
-pub fn take_bytes<S: Sponge>(sponge: &mut S, bytes: &[u8])
+pub(crate) fn take_bytes<S: Sponge>(sponge: &mut S, bytes: &[u8])
     ensures { λ _. ⌜ now (sponge .exit) ≡ takes steps (now (bytes .entry)) (now (sponge .entry)) ⌝ }
 {
     for b in bytes {
@@ -36,7 +36,7 @@ pub fn take_bytes<S: Sponge>(sponge: &mut S, bytes: &[u8])
 }
 
 // Each element by its number.
-pub fn take_values<S: Sponge, F: PrimeField>(sponge: &mut S, values: &[F])
+pub(crate) fn take_values<S: Sponge, F: PrimeField>(sponge: &mut S, values: &[F])
     ensures { λ _. ⌜ now (sponge .exit) ≡ takes steps (map numbered (now (values .entry))) (now (sponge .entry)) ⌝ }
 {
     for x in values {

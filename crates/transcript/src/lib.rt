@@ -1,6 +1,7 @@
-pub mod absorb;
 pub mod challenge;
 pub mod failure;
 pub mod phases;
 pub mod seed;
 pub mod shape;
+
+mod absorb;

@@ -3,7 +3,7 @@ ghost use mathlib.Core.Path.{_≡_};
 ghost use Prim.Native.Nat.{_+_, _*_, _≤_};
 ghost use Rattle.transcript.specs.Takes.{takes};
 ghost use lib.ListN.{length};
-ghost use Rattle.transcript.specs.Seed.{counted-steps, number-bytes, instance, part, codes, seed, plain-shape, full-shape, Seed-lengths};
+ghost use Rattle.transcript.specs.Seed.{counted-steps, number-bytes, instance, part, codes, seed, Seed-lengths};
 use crate::absorb::take_bytes;
 use crate::absorb::take_number;
 use crate::shape::StarkShape;
@@ -70,6 +70,7 @@ fn step_count(shape: &StarkShape) -> usize
     ensures count { λ r. ⌜ r ≡ length (codes (now (shape .entry))) ⌝ }
     ensures seeds { λ r. ⌜ length (seed (now (shape .entry))) ≡ 101 + 9 * r ⌝ }
     ensures few { λ r. ⌜ r ≤ 10 ⌝ }
+    ensures table { λ _. ⌜ Seed-lengths ⌝ }
 {
     let preprocessed = usize::from(shape.preprocessed_width > 0);
     let random = usize::from(shape.has_randomization);
@@ -77,16 +78,10 @@ fn step_count(shape: &StarkShape) -> usize
     7 + preprocessed + random + grinds
 }
 
+// 101 bytes and nine for each step: 164 for seven steps, 191 for ten.
 pub fn seed_length(shape: &StarkShape) -> usize
-    ensures { λ r. ⌜ r ≡ length (seed (now (shape .entry))) ⌝ }
+    ensures length { λ r. ⌜ r ≡ length (seed (now (shape .entry))) ⌝ }
+    ensures table { λ _. ⌜ Seed-lengths ⌝ }
 {
     101 + 9 * step_count(shape)
-}
-
-// 101 bytes and nine for each step: 164 for seven steps, 191 for ten.
-pub fn seed_lengths() -> (usize, usize)
-    ensures table { λ _. ⌜ Seed-lengths ⌝ }
-    ensures ends { λ r. ⌜ (r .0 ≡ length (seed plain-shape)) × (r .1 ≡ length (seed full-shape)) ⌝ }
-{
-    (164, 191)
 }

@@ -15,6 +15,7 @@ returns c =
     let count : 7 + c .from-preprocessed .result + c .from-random .result + c .from-grinds .result ≡ length (codes sh) =
     rw (p, z, g) (sym (steps-count sh)) in
     record {
+      table = lengths;
       count = count;
       seeds = lengths .every sh ∙ ap (λ n. 101 + 9 * n) (sym count);
       few = rw (p, z, g) (at-most-ten (ltb 0 (sh .«preprocessed_width»)) (sh .«has_randomization») (ltb 0 (sh .«ood_pow_bits»)));
