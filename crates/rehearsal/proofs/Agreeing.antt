@@ -49,7 +49,7 @@ module _ {S E : Type 0} (st : Steps S) (dr : Draws E) (sh : StarkShape) (s₀ : 
 
   record Second-ok (x : First) (y : Second) (z : E) (s : S) : Type 0 where
     pub placed : random-fault sh (y .random) ≡ None
-    pub passes : accepted st (sh .«ood_pow_bits») (committed st dr sh (y .quotient) (y .random) (after-alpha x)) (y .witness) ≡ true
+    pub passes : accepted st (sh .«ood_pow_bits») (committed st sh (y .quotient) (y .random) (after-alpha x)) (y .witness) ≡ true
     pub draws : z ≡ challenge st dr (before-zeta x y)
     pub leaves : s ≡ after-zeta x y
 
@@ -77,22 +77,22 @@ module _ {S E : Type 0} (st : Steps S) (dr : Draws E) (sh : StarkShape) (s₀ : 
   constrains-kept x (halted x′ a f t) k = k
 
   -- the out-of-domain phase keeps it
-  point : (q : ℕ) (r : Option ℕ) (w : ℕ) (x : First) (s : S) → random-fault sh r ≡ None → accepted st (sh .«ood_pow_bits») (committed st dr sh q r s) w ≡ true → s ≡ after-alpha x → Second-ok x (record { quotient = q; random = r; witness = w }) (challenge st dr (tested st dr sh q r s w)) (drawn st dr (tested st dr sh q r s w))
+  point : (q : ℕ) (r : Option ℕ) (w : ℕ) (x : First) (s : S) → random-fault sh r ≡ None → accepted st (sh .«ood_pow_bits») (committed st sh q r s) w ≡ true → s ≡ after-alpha x → Second-ok x (record { quotient = q; random = r; witness = w }) (challenge st dr (tested st dr sh q r s w)) (drawn st dr (tested st dr sh q r s w))
   point q r w x s ef passed e = record {
     placed = ef;
-    passes = subst (λ t. accepted st (sh .«ood_pow_bits») (committed st dr sh q r t) w ≡ true) e passed;
+    passes = subst (λ t. accepted st (sh .«ood_pow_bits») (committed st sh q r t) w ≡ true) e passed;
     draws = ap (λ t. challenge st dr (tested st dr sh q r t w)) e;
     leaves = ap (λ t. drawn st dr (tested st dr sh q r t w)) e;
   }
 
-  proving-keeps : (x : First) (a : E) (q : ℕ) (r : Option ℕ) (budget : ℕ) (s : S) (f : Option StarkTranscriptFailure) (o : Option ℕ) → random-fault sh r ≡ f → witnessed st dr sh q r budget s ≡ o → First-ok x a → s ≡ after-alpha x → Kept (after-proving x a q r (prover-outcome f o (λ w. challenge st dr (tested st dr sh q r s w)) (tried (sh .«ood_pow_bits»))) (prover-sponge f o (commit st q s) (committed st dr sh q r s) (λ w. drawn st dr (tested st dr sh q r s w))))
+  proving-keeps : (x : First) (a : E) (q : ℕ) (r : Option ℕ) (budget : ℕ) (s : S) (f : Option StarkTranscriptFailure) (o : Option ℕ) → random-fault sh r ≡ f → witnessed st dr sh q r budget s ≡ o → First-ok x a → s ≡ after-alpha x → Kept (after-proving x a q r (prover-outcome f o (λ w. challenge st dr (tested st dr sh q r s w)) (tried (sh .«ood_pow_bits»))) (prover-sponge f o (commit st q s) (committed st sh q r s) (λ w. drawn st dr (tested st dr sh q r s w))))
   proving-keeps x a q r budget s (Some f) o ef eo k e = k
   proving-keeps x a q r budget s None None ef eo k e = k
   proving-keeps x a q r budget s None (Some w) ef eo k e =
       let bits = sh .«ood_pow_bits» in
-      (k, point q r w x s ef (found-accepted (λ v. passing st (committed st dr sh q r s) v bits) (min budget (dr .order)) w (ltb 0 bits) eo) e)
+      (k, point q r w x s ef (found-accepted (λ v. passing st (committed st sh q r s) v bits) (min budget (dr .order)) w (ltb 0 bits) eo) e)
 
-  checking-keeps : (x : First) (a : E) (q : ℕ) (r : Option ℕ) (w : ℕ) (s : S) (f : Option StarkTranscriptFailure) (b : Bool) → random-fault sh r ≡ f → accepted st (sh .«ood_pow_bits») (committed st dr sh q r s) w ≡ b → First-ok x a → s ≡ after-alpha x → Kept (after-checking x a q r w (verifier-outcome f b (sh .«ood_pow_bits») (challenge st dr (tested st dr sh q r s w))) (verifier-sponge f b (commit st q s) (tested st dr sh q r s w) (drawn st dr (tested st dr sh q r s w))))
+  checking-keeps : (x : First) (a : E) (q : ℕ) (r : Option ℕ) (w : ℕ) (s : S) (f : Option StarkTranscriptFailure) (b : Bool) → random-fault sh r ≡ f → accepted st (sh .«ood_pow_bits») (committed st sh q r s) w ≡ b → First-ok x a → s ≡ after-alpha x → Kept (after-checking x a q r w (verifier-outcome f b (sh .«ood_pow_bits») (challenge st dr (tested st dr sh q r s w))) (verifier-sponge f b (commit st q s) (tested st dr sh q r s w) (drawn st dr (tested st dr sh q r s w))))
   checking-keeps x a q r w s (Some f) b ef eb k e = k
   checking-keeps x a q r w s None false ef eb k e = k
   checking-keeps x a q r w s None true ef eb k e = (k, point q r w x s ef eb e)
@@ -100,7 +100,7 @@ module _ {S E : Type 0} (st : Steps S) (dr : Draws E) (sh : StarkShape) (s₀ : 
   leaves-domain-kept : (role : Role) (q : ℕ) (r : Option ℕ) (n : ℕ) (e : Stand S E) → Kept e → Kept (leaves-domain st dr sh role q r n e)
   leaves-domain-kept role q r n (start s) k = k
   leaves-domain-kept prover q r n (mid x a s) k = proving-keeps x a q r n s (random-fault sh r) (witnessed st dr sh q r n s) refl refl (k .0) (k .1)
-  leaves-domain-kept verifier q r n (mid x a s) k = checking-keeps x a q r n s (random-fault sh r) (accepted st (sh .«ood_pow_bits») (committed st dr sh q r s) n) refl refl (k .0) (k .1)
+  leaves-domain-kept verifier q r n (mid x a s) k = checking-keeps x a q r n s (random-fault sh r) (accepted st (sh .«ood_pow_bits») (committed st sh q r s) n) refl refl (k .0) (k .1)
   leaves-domain-kept role q r n (ready x a y z s) k = k
   leaves-domain-kept role q r n (bracketed x a y z s b) k = k
   leaves-domain-kept role q r n (stopped f t) k = k

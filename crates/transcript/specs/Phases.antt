@@ -100,6 +100,10 @@ module _ {S : Type 0} (st : Steps S) (bits : ℕ) (s : S) where
 abbrev pub tried : ℕ → ℕ → ℕ
 tried bits w = cond (ltb 0 bits) (w + 1) 0
 
+-- steps 5 and 6
+abbrev pub committed : {S : Type 0} → Steps S → StarkShape → ℕ → Option ℕ → S → S
+committed st sh q r s = commit-if st (sh .«has_randomization») r (commit st q s)
+
 module _ {S E : Type 0} (st : Steps S) (dr : Draws E) (sh : StarkShape) where
   -- steps 1 to 3, before alpha
   abbrev pub bound : First → S → S
@@ -113,17 +117,13 @@ module _ {S E : Type 0} (st : Steps S) (dr : Draws E) (sh : StarkShape) where
   constraint-left x s =
       constraint-sponge (eqb (length (x .public)) (sh .«num_public_values»)) (preprocessed-fault sh (x .preprocessed)) s (commit st (x .trace) s) (drawn st dr (bound x s))
 
-  -- steps 5 and 6
-  abbrev pub committed : ℕ → Option ℕ → S → S
-  committed q r s = commit-if st (sh .«has_randomization») r (commit st q s)
-
   -- steps 5 to 7, before zeta
   abbrev pub tested : ℕ → Option ℕ → S → ℕ → S
-  tested q r s w = ground st (sh .«ood_pow_bits») (committed q r s) w
+  tested q r s w = ground st (sh .«ood_pow_bits») (committed st sh q r s) w
 
   -- a prover tries the numbers below its budget and the order
   abbrev pub witnessed : ℕ → Option ℕ → ℕ → S → Option ℕ
-  witnessed q r budget s = found st (sh .«ood_pow_bits») (committed q r s) (min budget (dr .order))
+  witnessed q r budget s = found st (sh .«ood_pow_bits») (committed st sh q r s) (min budget (dr .order))
 
   abbrev pub prover-answer : ℕ → Option ℕ → ℕ → S → Result (OodDraw E) StarkTranscriptFailure
   prover-answer q r budget s =
@@ -131,12 +131,12 @@ module _ {S E : Type 0} (st : Steps S) (dr : Draws E) (sh : StarkShape) where
 
   abbrev pub prover-left : ℕ → Option ℕ → ℕ → S → S
   prover-left q r budget s =
-      prover-sponge (random-fault sh r) (witnessed q r budget s) (commit st q s) (committed q r s) (λ w. drawn st dr (tested q r s w))
+      prover-sponge (random-fault sh r) (witnessed q r budget s) (commit st q s) (committed st sh q r s) (λ w. drawn st dr (tested q r s w))
 
   abbrev pub verifier-answer : ℕ → Option ℕ → ℕ → S → Result E StarkTranscriptFailure
   verifier-answer q r w s =
-      verifier-outcome (random-fault sh r) (accepted st (sh .«ood_pow_bits») (committed q r s) w) (sh .«ood_pow_bits») (challenge st dr (tested q r s w))
+      verifier-outcome (random-fault sh r) (accepted st (sh .«ood_pow_bits») (committed st sh q r s) w) (sh .«ood_pow_bits») (challenge st dr (tested q r s w))
 
   abbrev pub verifier-left : ℕ → Option ℕ → ℕ → S → S
   verifier-left q r w s =
-      verifier-sponge (random-fault sh r) (accepted st (sh .«ood_pow_bits») (committed q r s) w) (commit st q s) (tested q r s w) (drawn st dr (tested q r s w))
+      verifier-sponge (random-fault sh r) (accepted st (sh .«ood_pow_bits») (committed st sh q r s) w) (commit st q s) (tested q r s w) (drawn st dr (tested q r s w))

@@ -1,7 +1,6 @@
+mod absorb;
 pub mod challenge;
 pub mod failure;
 pub mod phases;
 pub mod seed;
 pub mod shape;
-
-mod absorb;

@@ -6,7 +6,7 @@ ghost use lib.ListN.{length};
 ghost use Rattle.sponge.specs.Steps.{passing, checked};
 ghost use Rattle.transcript.specs.Takes.{commit-if, over};
 ghost use Rattle.transcript.specs.Schedule.{first};
-ghost use Rattle.transcript.specs.Phases.{misplaced, least, Under, found, found-sponge, accepted, ground, constraint-answer, constraint-left, prover-answer, prover-left, verifier-answer, verifier-left};
+ghost use Rattle.transcript.specs.Phases.{misplaced, random-fault, committed, least, Under, found, found-sponge, accepted, ground, constraint-answer, constraint-left, prover-answer, prover-left, verifier-answer, verifier-left};
 use crate::absorb::take_commitment;
 use crate::absorb::take_values;
 use crate::challenge::draw_challenge;
@@ -79,19 +79,12 @@ pub fn constraint_phase<S: Sponge, F: PrimeField, E: Extension<F>>(
     take_commitment(sponge, trace);
     let width = shape.preprocessed_width;
     let missing = StarkTranscriptFailure::MissingPreprocessedCommitment { width };
-    match take_optional(
-        sponge,
-        width > 0,
-        preprocessed,
-        missing,
-        StarkTranscriptFailure::UnexpectedPreprocessedCommitment,
-    ) {
-        Some(failure) => ConstraintOutcome::Ended(failure),
-        None => {
-            take_values(sponge, public_values);
-            ConstraintOutcome::Passed(draw_challenge::<S, F, E>(sponge))
-        }
+    let unexpected = StarkTranscriptFailure::UnexpectedPreprocessedCommitment;
+    if let Some(failure) = take_optional(sponge, width > 0, preprocessed, missing, unexpected) {
+        return ConstraintOutcome::Ended(failure);
     }
+    take_values(sponge, public_values);
+    ConstraintOutcome::Passed(draw_challenge::<S, F, E>(sponge))
 }
 
 // The least witness below the limit that passes.
@@ -147,6 +140,26 @@ fn is_ground<S: Sponge>(sponge: &mut S, bits: usize, witness: u32) -> bool
     check_witness(sponge, witness, bits)
 }
 
+// Steps 5 and 6.
+fn take_quotient<S: Sponge>(
+    shape: StarkShape,
+    sponge: &mut S,
+    quotient: u64,
+    random: Option<u64>,
+) -> Option<StarkTranscriptFailure>
+    ensures fault { λ r. ⌜ r ≡ random-fault shape random ⌝ }
+    ensures left { λ _. ⌜ now (sponge .exit) ≡ committed steps shape quotient random (now (sponge .entry)) ⌝ }
+{
+    take_commitment(sponge, quotient);
+    take_optional(
+        sponge,
+        shape.has_randomization,
+        random,
+        StarkTranscriptFailure::MissingRandomCommitment,
+        StarkTranscriptFailure::UnexpectedRandomCommitment,
+    )
+}
+
 pub fn prover_ood_phase<S: Sponge, F: PrimeField, E: Extension<F>>(
     shape: StarkShape,
     sponge: &mut S,
@@ -157,29 +170,20 @@ pub fn prover_ood_phase<S: Sponge, F: PrimeField, E: Extension<F>>(
     ensures answer { λ r. ⌜ r ≡ prover-answer steps (over modulus (E·Field .ops) dim basis) shape quotient random budget (now (sponge .entry)) ⌝ }
     ensures left { λ _. ⌜ now (sponge .exit) ≡ prover-left steps (over modulus (E·Field .ops) dim basis) shape quotient random budget (now (sponge .entry)) ⌝ }
 {
-    take_commitment(sponge, quotient);
-    match take_optional(
-        sponge,
-        shape.has_randomization,
-        random,
-        StarkTranscriptFailure::MissingRandomCommitment,
-        StarkTranscriptFailure::UnexpectedRandomCommitment,
-    ) {
-        Some(failure) => Err(failure),
-        None => {
-            let bits = shape.ood_pow_bits;
-            match grind(sponge, bits, budget.min(F::order())) {
-                None => Err(StarkTranscriptFailure::GrindBudgetSpent),
-                Some(witness) => {
-                    let tries = if bits > 0 { witness + 1 } else { 0 };
-                    let zeta = draw_challenge::<S, F, E>(sponge);
-                    Ok(OodDraw {
-                        zeta,
-                        witness,
-                        tries,
-                    })
-                }
-            }
+    if let Some(failure) = take_quotient(shape, sponge, quotient, random) {
+        return Err(failure);
+    }
+    let bits = shape.ood_pow_bits;
+    match grind(sponge, bits, budget.min(F::order())) {
+        None => Err(StarkTranscriptFailure::GrindBudgetSpent),
+        Some(witness) => {
+            let tries = if bits > 0 { witness + 1 } else { 0 };
+            let zeta = draw_challenge::<S, F, E>(sponge);
+            Ok(OodDraw {
+                zeta,
+                witness,
+                tries,
+            })
         }
     }
 }
@@ -194,22 +198,12 @@ pub fn verifier_ood_phase<S: Sponge, F: PrimeField, E: Extension<F>>(
     ensures answer { λ r. ⌜ r ≡ verifier-answer steps (over modulus (E·Field .ops) dim basis) shape quotient random witness (now (sponge .entry)) ⌝ }
     ensures left { λ _. ⌜ now (sponge .exit) ≡ verifier-left steps (over modulus (E·Field .ops) dim basis) shape quotient random witness (now (sponge .entry)) ⌝ }
 {
-    take_commitment(sponge, quotient);
-    match take_optional(
-        sponge,
-        shape.has_randomization,
-        random,
-        StarkTranscriptFailure::MissingRandomCommitment,
-        StarkTranscriptFailure::UnexpectedRandomCommitment,
-    ) {
-        Some(failure) => Err(failure),
-        None => {
-            let bits = shape.ood_pow_bits;
-            if is_ground(sponge, bits, witness) {
-                Ok(draw_challenge::<S, F, E>(sponge))
-            } else {
-                Err(StarkTranscriptFailure::OodPowWitness { bits })
-            }
-        }
+    if let Some(failure) = take_quotient(shape, sponge, quotient, random) {
+        return Err(failure);
     }
+    let bits = shape.ood_pow_bits;
+    if !is_ground(sponge, bits, witness) {
+        return Err(StarkTranscriptFailure::OodPowWitness { bits });
+    }
+    Ok(draw_challenge::<S, F, E>(sponge))
 }
