@@ -66,7 +66,8 @@ pub impl Sponge for Rolling as RollingSponge {
 
 impl Duplex {
     pub fn new() -> Duplex
-        ensures { λ r. ⌜ r ≡ zero-duplex ⌝ }
+        ensures words { λ r. ⌜ r .words ≡ zero-duplex .words ⌝ }
+        ensures place { λ r. ⌜ r .q ≡ zero-duplex .q ⌝ }
     {
         Duplex {
             words: [0; 8],

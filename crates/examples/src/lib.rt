@@ -1,0 +1,2 @@
+// Worked examples of the library, run as tests.
+mod transcript;
