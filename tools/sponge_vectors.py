@@ -151,7 +151,7 @@ def main():
         print('Rolling run over 17, bits', bits, *run(Rolling(), shape(ood_pow_bits=bits), 17, 1, 1, None, [3, 5], 2, None, 100))
         print('Rolling run over pairs, bits', bits,
               *run(Rolling(), shape(ood_pow_bits=bits), 2013265921, 2, 2 ** 40 + 1, None, [3, 5], 2, None, 100))
-    print('Rolling run, ten steps', *run(Rolling(), FULL, 2013265921, 2, 2 ** 40 + 1, 7, [], 2, 9, 1000))
+    print('Rolling run, ten steps', *run(Rolling(), FULL, 2013265921, 2, 2 ** 40 + 1, 7, [], 2, 9, 100))
     print('Rolling budget 0', *run(Rolling(), shape(ood_pow_bits=2), 17, 1, 1, None, [3, 5], 2, None, 0))
     print('Duplex run over 17', *run(Duplex(), shape(), 17, 1, 1, None, [3, 5], 2, None, 100))
     print('Duplex run over pairs', *run(Duplex(), shape(), 2013265921, 2, 2 ** 40 + 1, None, [3, 5], 2, None, 100))

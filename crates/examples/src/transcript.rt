@@ -123,8 +123,24 @@ mod tests {
         check_eq(seed_length(&full_shape()), 191)
     }
 
-    // A first attempt with one public value of two is refused and changes nothing.
-    fn asked(trace: u64, last: u32) -> [Request; 6] {
+    // What both ends are given, but for a prover's budget and a verifier's witness.
+    #[derive(Clone, Copy)]
+    struct Sent {
+        trace: u64,
+        preprocessed: Option<u64>,
+        count: usize,
+        random: Option<u64>,
+    }
+
+    const PLAIN: Sent = Sent {
+        trace: 1,
+        preprocessed: None,
+        count: 2,
+        random: None,
+    };
+
+    // A first attempt with one public value is refused and changes nothing.
+    fn asked(sent: Sent, last: u32) -> [Request; 6] {
         [
             Request::Constraint {
                 trace: 5,
@@ -133,14 +149,14 @@ mod tests {
                 count: 1,
             },
             Request::Constraint {
-                trace,
-                preprocessed: None,
+                trace: sent.trace,
+                preprocessed: sent.preprocessed,
                 from: 0,
-                count: 2,
+                count: sent.count,
             },
             Request::OutOfDomain {
                 quotient: 2,
-                random: None,
+                random: sent.random,
                 last,
             },
             Request::Begin,
@@ -179,8 +195,8 @@ mod tests {
             &mut prover,
             &mut verifier,
             shape,
-            &asked(1, 100),
-            &asked(1, witness),
+            &asked(PLAIN, 100),
+            &asked(PLAIN, witness),
             &values,
         )
     }
@@ -188,6 +204,7 @@ mod tests {
     fn over_pairs<S: Sponge>(
         start: S,
         shape: StarkShape,
+        sent: Sent,
         witness: u32,
     ) -> Rehearsal<Pair<BabyBear>> {
         let values = [BabyBear::from_u32(3), BabyBear::from_u32(5)];
@@ -197,8 +214,8 @@ mod tests {
             &mut prover,
             &mut verifier,
             shape,
-            &asked(1099511627777, 100),
-            &asked(1099511627777, witness),
+            &asked(sent, 100),
+            &asked(sent, witness),
             &values,
         )
     }
@@ -218,7 +235,13 @@ mod tests {
 
     #[test]
     fn runs_over_pairs() -> Result<(), Fail> {
-        let both = over_pairs(Rolling::new(), shape(2), 0);
+        let sent = Sent {
+            trace: 1099511627777,
+            preprocessed: None,
+            count: 2,
+            random: None,
+        };
+        let both = over_pairs(Rolling::new(), shape(2), sent, 0);
         check_eq(
             drawn_pairs(both.prover),
             Some(([1042144763, 132659996, 1561355283, 1140759126], 0)),
@@ -227,7 +250,7 @@ mod tests {
             drawn_pairs(both.verifier),
             Some(([1042144763, 132659996, 1561355283, 1140759126], 0)),
         )?;
-        let both = over_pairs(Duplex::new(), shape(0), 0);
+        let both = over_pairs(Duplex::new(), shape(0), sent, 0);
         check_eq(
             drawn_pairs(both.prover),
             Some(([1109003428, 831691266, 1341711865, 509015938], 0)),
@@ -235,6 +258,21 @@ mod tests {
         check_eq(
             drawn_pairs(both.verifier),
             Some(([1109003428, 831691266, 1341711865, 509015938], 0)),
+        )?;
+        let sent = Sent {
+            trace: 1099511627777,
+            preprocessed: Some(7),
+            count: 0,
+            random: Some(9),
+        };
+        let both = over_pairs(Rolling::new(), full_shape(), sent, 6);
+        check_eq(
+            drawn_pairs(both.prover),
+            Some(([1979478314, 1685155456, 1593610750, 190117714], 6)),
+        )?;
+        check_eq(
+            drawn_pairs(both.verifier),
+            Some(([1979478314, 1685155456, 1593610750, 190117714], 6)),
         )
     }
 

@@ -63,10 +63,11 @@ prover-outcome (Some f) o zeta tried = Err f
 prover-outcome None None zeta tried = Err GrindBudgetSpent
 prover-outcome None (Some w) zeta tried = Ok (record { zeta = zeta w; witness = w; tries = tried w })
 
+-- its sponge: after step 5 where the random commitment is misplaced, after steps 5 and 6 where the budget is spent
 abbrev pub prover-sponge : {S : Type 0} → Option StarkTranscriptFailure → Option ℕ → S → S → (ℕ → S) → S
-prover-sponge (Some f) o misplaced spent passed = misplaced
-prover-sponge None None misplaced spent passed = spent
-prover-sponge None (Some w) misplaced spent passed = passed w
+prover-sponge (Some f) o early spent passed = early
+prover-sponge None None early spent passed = spent
+prover-sponge None (Some w) early spent passed = passed w
 
 -- and of a verifier
 abbrev pub verifier-outcome : {E : Type 0} → Option StarkTranscriptFailure → Bool → ℕ → E → Result E StarkTranscriptFailure
@@ -74,10 +75,11 @@ verifier-outcome (Some f) b bits zeta = Err f
 verifier-outcome None false bits zeta = Err (OodPowWitness bits)
 verifier-outcome None true bits zeta = Ok zeta
 
+-- its sponge: after step 5 where the random commitment is misplaced, after the check where the witness does not pass
 abbrev pub verifier-sponge : {S : Type 0} → Option StarkTranscriptFailure → Bool → S → S → S → S
-verifier-sponge (Some f) b misplaced refused passed = misplaced
-verifier-sponge None false misplaced refused passed = refused
-verifier-sponge None true misplaced refused passed = passed
+verifier-sponge (Some f) b early refused passed = early
+verifier-sponge None false early refused passed = refused
+verifier-sponge None true early refused passed = passed
 
 module _ {S : Type 0} (st : Steps S) (bits : ℕ) (s : S) where
   -- step 7, where the run describes it: the sponge after the check of a witness

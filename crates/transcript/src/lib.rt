@@ -1,3 +1,4 @@
+// The transcript of a run: its shape, the seed, the challenges, and the two phases over a sponge.
 mod absorb;
 pub mod challenge;
 pub mod failure;
