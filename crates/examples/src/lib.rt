@@ -2,3 +2,4 @@
 pub mod domains;
 mod fields;
 mod lists;
+mod transcript;

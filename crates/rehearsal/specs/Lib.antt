@@ -1,0 +1,4 @@
+pub mod Parts
+pub mod Runs
+pub mod Driven
+pub mod Agreement
