@@ -1,0 +1,3 @@
+// Two AIRs, the station AIR and the weight AIR, and the check of a table of stations.
+pub mod station;
+pub mod weight;
