@@ -1,11 +1,13 @@
--- What the builders hold once an AIR's constraints were asserted. Assumes nothing.
+-- What the builders hold once an AIR's constraints were asserted, and that this is fixed by what is read. Assumes nothing.
+use mathlib.Core.Bool.{Bool, true}
 use mathlib.Core.List.{List, [], _∷_}
 use mathlib.Core.Path.{_≡_, refl, ap, _∙_}
 use Prim.Native.Nat.{ℕ, zero, suc}
+use Rattle.std.proofs.shelf.Tests.{and-parts}
 use Rattle.std.specs.declared.option.Option.the-variants.{None, Some}
 use Rattle.algebra.specs.Ring.{RingOps}
-use Rattle.expression.specs.Expression.{Leaf, Expression, values, meaning, folded, asserted}
-use Rattle.expression.proofs.Meanings.{meaning-kept}
+use Rattle.expression.specs.Expression.{Leaf, Expression, values, meaning, folded, asserted, within, all-within}
+use Rattle.expression.proofs.Meanings.{meaning-kept, same-meaning}
 use Rattle.air.specs.Folder.{constraint-at, horner, picked}
 use Rattle.air.specs.Values.{of-value, value-operations}
 
@@ -32,3 +34,11 @@ module _ {E : Type 0} (ops : RingOps E) (read : Leaf → E) where
   picker-holds i [] = refl
   picker-holds zero (c ∷ cs) = picker-keeps 0 (meaning (value-operations ops) (λ l. of-value (read l)) c .value) cs ∙ ap Some (value-meaning c)
   picker-holds (suc i) (c ∷ cs) = picker-holds i cs
+
+-- two ways to read agree on the leaves that pass
+pub same-constraint : {E : Type 0} (ops : RingOps E) (passes : Leaf → Bool) (read read′ : Leaf → E) → ((l : Leaf) → passes l ≡ true → read l ≡ read′ l)
+    → (cs : List Expression) → all-within passes cs ≡ true → (i : ℕ) → constraint-at ops read cs i ≡ constraint-at ops read′ cs i
+same-constraint ops passes read read′ agree [] h i = refl
+same-constraint ops passes read read′ agree (c ∷ cs) h zero =
+    ap Some (same-meaning (values ops) passes read read′ agree c (and-parts (within passes c) (all-within passes cs) h .0))
+same-constraint ops passes read read′ agree (c ∷ cs) h (suc i) = same-constraint ops passes read read′ agree cs (and-parts (within passes c) (all-within passes cs) h .1) i
