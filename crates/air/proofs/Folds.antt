@@ -8,7 +8,8 @@ use Rattle.std.specs.declared.option.Option.the-variants.{None, Some}
 use Rattle.algebra.specs.Ring.{RingOps}
 use Rattle.expression.specs.Expression.{Leaf, Expression, values, meaning, folded, asserted, within, all-within}
 use Rattle.expression.proofs.Meanings.{meaning-kept, same-meaning}
-use Rattle.air.specs.Folder.{constraint-at, horner, picked}
+use Rattle.air.specs.Folder.{horner}
+use Rattle.air.specs.Picker.{constraint-at, picked}
 use Rattle.air.specs.Values.{of-value, value-operations}
 
 module _ {E : Type 0} (ops : RingOps E) (read : Leaf → E) where

@@ -1,18 +1,14 @@
--- What constraints come to over opened rows: their fold, and the value of each. Assumes nothing.
+-- The fold of constraints over opened rows. Assumes nothing.
 use mathlib.Core.Bool.{true, cond}
-use mathlib.Core.List.{List, [], _∷_}
+use mathlib.Core.List.{List}
 use mathlib.Core.Path.{_≡_}
-use Prim.Native.Nat.{ℕ, zero, suc}
-use Rattle.std.specs.declared.option.Option.{Option}
-use Rattle.std.specs.declared.option.Option.the-variants.{None, Some}
 use Rattle.std.specs.declared.result.Result.{Result}
 use Rattle.std.specs.declared.result.Result.the-variants.{Ok, Err}
 use Rattle.algebra.specs.Ring.{RingOps}
-use Rattle.expression.specs.Expression.{Leaf, Expression, values, meaning, folded}
+use Rattle.expression.specs.Expression.{Leaf, Expression, values, folded}
 use Rattle.air.specs.Opened.{covers, opened}
 use Rattle.air.specs.Sound.{declares}
 use Rattle.air.specs.declared.builder.Layout.{Layout}
-use Rattle.air.specs.declared.folder.ConstraintPicker.{ConstraintPicker}
 use Rattle.air.specs.declared.folder.VerifierConstraintFolder.{VerifierConstraintFolder}
 use Rattle.air.specs.declared.opened.AirInputsTooShort.{AirInputsTooShort}
 use Rattle.air.specs.declared.opened.OpenedRows.{OpenedRows}
@@ -37,21 +33,3 @@ Declared-suffices {E} ops d cs =
     (read read′ : Leaf → E)
     → ((l : Leaf) → declares d l ≡ true → read l ≡ read′ l)
     → (alpha acc : E) → folded (values ops) read alpha acc cs ≡ folded (values ops) read′ alpha acc cs
-
--- the value of the i-th constraint, and nothing past the last
-abbrev pub constraint-at : {E : Type 0} → RingOps E → (Leaf → E) → List Expression → ℕ → Option E
-constraint-at ops read [] i = None
-constraint-at ops read (c ∷ cs) zero = Some (meaning (values ops) read c)
-constraint-at ops read (c ∷ cs) (suc i) = constraint-at ops read cs i
-
-abbrev pub constraint-or-refusal : {F E : Type 0} → RingOps E → (F → E) → Layout → List Expression → OpenedRows F E → ℕ → Result (Option E) AirInputsTooShort
-constraint-or-refusal ops embedded d cs rows i = if-covered d rows (constraint-at ops (opened ops embedded rows) cs i)
-
--- a constraint's value passed, or kept where it is the wanted one
-abbrev pub pick : {E : Type 0} → ℕ → Option E → E → ConstraintPicker E
-pick left (Some y) x = record { left = left; found = Some y }
-pick zero None x = record { left = 0; found = Some x }
-pick (suc left) None x = record { left = left; found = None }
-
-abbrev pub picked : {E : Type 0} → ConstraintPicker E → Value E → ConstraintPicker E
-picked p x = pick (p .left) (p .found) (x .value)

@@ -2,4 +2,5 @@
 pub mod builder;
 pub mod folder;
 pub mod opened;
+pub mod picker;
 pub mod value;

@@ -16,7 +16,7 @@ use Rattle.algebra.specs.Polynomial.{Each}
 use Rattle.algebra.specs.Ring.{RingOps}
 use Rattle.expression.specs.Expression.{Leaf, Expression, values, meaning}
 use Rattle.field.specs.Numbers.{Numbered}
-use Rattle.air.specs.Folder.{constraint-at}
+use Rattle.air.specs.Picker.{constraint-at}
 use Rattle.airs.specs.Station.{station}
 use Rattle.airs.specs.Table.{Clear, Found, Walk-in, Zero, Zero-in, first-flag, flag, if-there, last-flag, none, public-in, reads-in, table-of, transition-flag, value-in}
 use Rattle.airs.specs.Walk.{Apart, Selectors, Vanish, Walk}

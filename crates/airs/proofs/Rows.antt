@@ -14,7 +14,7 @@ use Rattle.std.specs.declared.result.Result.{Result}
 use Rattle.std.specs.declared.result.Result.the-variants.{Ok, Err}
 use Rattle.algebra.specs.Ring.{RingOps}
 use Rattle.expression.specs.Expression.{Leaf, main, main-next, preprocessed, preprocessed-next, public, periodic, is-first, is-last, is-transition, number}
-use Rattle.air.specs.Folder.{constraint-at}
+use Rattle.air.specs.Picker.{constraint-at}
 use Rattle.air.specs.Opened.{opened}
 use Rattle.air.specs.Sound.{declares}
 use Rattle.air.specs.declared.opened.OpenedRows.{OpenedRows}

@@ -9,7 +9,7 @@ use Rattle.std.specs.declared.option.Option.{Option}
 use Rattle.std.specs.declared.option.Option.the-variants.{None, Some}
 use Rattle.algebra.specs.Ring.{RingOps}
 use Rattle.expression.specs.Expression.{Leaf}
-use Rattle.air.specs.Folder.{constraint-at}
+use Rattle.air.specs.Picker.{constraint-at}
 use Rattle.air.specs.Opened.{cells}
 use Rattle.air.specs.declared.opened.OpenedRows.{OpenedRows}
 use Rattle.airs.specs.Station.{station}

@@ -5,5 +5,7 @@ use Rattle.air.proofs.folder.fold_constraints.Needs as need
 
 pub returns : need.returns
 returns g c =
-    let read = opened (g .E·Field .ops) (g .E·Extension .embedded) (c .args .rows .now) in
-    grind (arith, folder-holds (g .E·Field .ops) read (c .args .alpha) (c .zero .result) (g .A·Air .constraints (c .args .air .now)))
+    let read = opened (g .E·Field .ops) (g .E·Extension .embedded) (c .args .rows .now) in record {
+      value = grind (arith, folder-holds (g .E·Field .ops) read (c .args .alpha) (c .zero .result) (g .A·Air .constraints (c .args .air .now)));
+      declared = c .declared-suffices .ensures;
+    }

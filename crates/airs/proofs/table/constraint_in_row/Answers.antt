@@ -1,6 +1,6 @@
 use mathlib.Core.Path.{_∙_}
 use native.Mathlib.Omega.{arith}
-use Rattle.air.specs.Folder.{constraint-at}
+use Rattle.air.specs.Picker.{constraint-at}
 use Rattle.air.specs.Opened.{covers, opened}
 use Rattle.airs.specs.Station.{station, station-layout}
 use Rattle.airs.proofs.Rows.{held, row-value}

@@ -1,7 +1,7 @@
 use native.Mathlib.Omega.{arith}
 use Rattle.air.specs.Opened.{opened}
 use Rattle.air.proofs.Folds.{picker-holds}
-use Rattle.air.proofs.folder.constraint_value.Needs as need
+use Rattle.air.proofs.picker.constraint_value.Needs as need
 
 pub returns : need.returns
 returns g c =
