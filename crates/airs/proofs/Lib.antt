@@ -1,4 +1,0 @@
-pub mod Checks
-pub mod Rows
-pub mod Steps
-pub mod Walks

@@ -1,4 +1,3 @@
-// Two AIRs, the station AIR and the weight AIR, and the check of a table of stations.
+// The station AIR and the weight AIR.
 pub mod station;
-pub mod table;
 pub mod weight;

@@ -145,16 +145,16 @@ fn most_chunks() -> usize
 mod tests {
     use super::*;
     use air::picker::constraint_value;
-    use airs::table::StationRow;
-    use airs::table::WalkEnds;
-    use airs::table::constraint_in_row;
-    use airs::table::failing_constraint;
-    use airs::table::first_failure;
-    use airs::table::vanishes_in_row;
     use airs::weight::WeightAir;
     use airs::weight::WeightAirAir;
     use std::test::*;
     use symbolic::log2_ceil;
+    use walk::StationRow;
+    use walk::WalkEnds;
+    use walk::constraint_in_row;
+    use walk::failing_constraint;
+    use walk::first_failure;
+    use walk::vanishes_in_row;
 
     // A number from 0 to 16, and nothing where there was no answer.
     fn number(x: Option<Seventeen>) -> Option<u32> {

@@ -12,4 +12,4 @@ same-values true a b y e = cc
 same-values false a b y e = cc
 
 pub returns-in-Ok : need.returns-in-Ok
-returns-in-Ok c = c .number .ensures ∙ same-values _ _ _ _ (c .in-Ok .ensures tt) ∙ folds-to-four _ (c .from-u32 .ensures)
+returns-in-Ok c = c .number .ensures ∙ same-values _ _ _ _ (c .in-Ok .ensures tt .value) ∙ folds-to-four _ (c .from-u32 .ensures)

@@ -17,13 +17,13 @@ use Rattle.algebra.specs.Ring.{RingOps}
 use Rattle.expression.specs.Expression.{Leaf, Expression, values, meaning}
 use Rattle.field.specs.Numbers.{Numbered}
 use Rattle.air.specs.Picker.{constraint-at}
 use Rattle.airs.specs.Station.{station}
-use Rattle.airs.specs.Table.{Clear, Found, Walk-in, Zero, Zero-in, first-flag, flag, if-there, last-flag, none, public-in, reads-in, table-of, transition-flag, value-in}
-use Rattle.airs.specs.Walk.{Apart, Selectors, Vanish, Walk}
-use Rattle.airs.specs.declared.table.Failure.{Failure}
-use Rattle.airs.specs.declared.table.StationRow.{StationRow}
-use Rattle.airs.specs.declared.table.WalkEnds.{WalkEnds}
-use Rattle.airs.proofs.Walks.{never-twice, vanish-of, walk-of}
+use Rattle.walk.specs.Table.{Clear, Found, Walk-in, Zero, Zero-in, first-flag, flag, if-there, last-flag, none, public-in, reads-in, table-of, transition-flag, value-in}
+use Rattle.walk.specs.Walk.{Apart, Selectors, Vanish, Walk}
+use Rattle.walk.specs.declared.Failure.{Failure}
+use Rattle.walk.specs.declared.StationRow.{StationRow}
+use Rattle.walk.specs.declared.WalkEnds.{WalkEnds}
+use Rattle.walk.proofs.Walks.{never-twice, vanish-of, walk-of}
 
 module _ {F : Type 0} (ops : RingOps F) (read : Leaf → F) where
   each-of : (cs : List Expression) → ((k : ℕ) → k < length cs → Zero ops (constraint-at ops read cs k)) → Each (λ c. meaning (values ops) read c ≡ ops .zero) cs

@@ -1,8 +1,8 @@
 use Prim.Native.Nat.{_≤_}
 use native.Mathlib.Omega.{arith}
 use borrow.Author.Count.{below-more}
-use Rattle.airs.specs.Table.{Zero-in}
-use Rattle.airs.proofs.table.failing_constraint.Needs as need
+use Rattle.walk.specs.Table.{Zero-in}
+use Rattle.walk.proofs.failing_constraint.Needs as need
 
 pub loop-constraint-again : need.loop-constraint-again
 loop-constraint-again g c =

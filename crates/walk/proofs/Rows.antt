@@ -19,10 +19,10 @@ use Rattle.air.specs.Opened.{opened}
 use Rattle.air.specs.Sound.{declares}
 use Rattle.air.specs.declared.opened.OpenedRows.{OpenedRows}
 use Rattle.air.proofs.Folds.{same-constraint}
 use Rattle.airs.specs.Station.{station, station-layout}
-use Rattle.airs.specs.Table.{Reads-station, flag, if-there, reads-in, table-of, value-in}
-use Rattle.airs.specs.declared.table.StationRow.{StationRow}
-use Rattle.airs.specs.declared.table.WalkEnds.{WalkEnds}
+use Rattle.walk.specs.Table.{Reads-station, flag, if-there, reads-in, table-of, value-in}
+use Rattle.walk.specs.declared.StationRow.{StationRow}
+use Rattle.walk.specs.declared.WalkEnds.{WalkEnds}
 
 map-same : {A : Type 0} (xs : List A) → map (λ x. x) xs ≡ xs
 map-same [] = refl

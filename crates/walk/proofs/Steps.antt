@@ -10,7 +10,7 @@ use Rattle.algebra.specs.Ring.{RingOps, sub, nat}
 use Rattle.algebra.proofs.FieldBasics.{division, zero-of-product}
 use Rattle.algebra.proofs.RingBasics.{nat-add, nat-mul, nat-one, zero-add, zero-mul, equal-of-sub}
 use Rattle.algebra.proofs.RingSolver.{ring, ring-from, shapes, fact, _·_, _⊞_}
-use Rattle.airs.specs.Walk.{spelled}
+use Rattle.walk.specs.Walk.{spelled}
 
 module _ {F : Type 0} {ops : RingOps F} {inverse : F → Option F} (laws : FieldLaws ops inverse) where
   open RingOps ops using (zero as 𝟘, one as 𝟙, add as _⊕_, mul as _⊗_, neg as ⊖_)

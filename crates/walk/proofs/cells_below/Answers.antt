@@ -3,8 +3,8 @@ use mathlib.Core.List.{[]}
 use mathlib.Core.Path.{refl, sym}
 use Prim.Native.Nat.{_+_}
 use Rattle.std.proofs.shelf.Lists.{getD-past, length-map}
-use Rattle.airs.specs.Table.{table-of}
-use Rattle.airs.proofs.table.cells_below.Needs as need
+use Rattle.walk.specs.Table.{table-of}
+use Rattle.walk.proofs.cells_below.Needs as need
 
 pub returns-else-below-rows : need.returns-else-below-rows
 returns-else-below-rows g c = record {

@@ -16,9 +16,9 @@ use Rattle.algebra.proofs.RingBasics.{nat-add, nat-one}
 use Rattle.algebra.proofs.RingSolver.{ring-from, shapes, fact, _·_, _⊞_}
 use Rattle.expression.specs.Expression.{values, meaning}
 use Rattle.field.specs.Numbers.{Numbered}
 use Rattle.airs.specs.Station.{station, byte}
-use Rattle.airs.specs.Walk.{Apart, Selectors, Station-law, Vanish, Walk, bit-in, byte-in, read-in, spelled, station-in}
-use Rattle.airs.proofs.Steps.{bit-is, byte-is, factor-zero, is-bit, of-step, other-factor, same-of-sub, step-of, sub-of-same, zero-factor}
+use Rattle.walk.specs.Walk.{Apart, Selectors, Station-law, Vanish, Walk, bit-in, byte-in, read-in, spelled, station-in}
+use Rattle.walk.proofs.Steps.{bit-is, byte-is, factor-zero, is-bit, of-step, other-factor, same-of-sub, step-of, sub-of-same, zero-factor}
 
 spelled-below : (bit : ℕ → ℕ) (n : ℕ) → ((j : ℕ) → j < n → bit j ≤ 1) → spelled bit n < 2 ^ n
 unfolding spelled

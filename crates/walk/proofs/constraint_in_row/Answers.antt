@@ -2,9 +2,9 @@ use mathlib.Core.Path.{_∙_}
 use native.Mathlib.Omega.{arith}
 use Rattle.air.specs.Picker.{constraint-at}
 use Rattle.air.specs.Opened.{covers, opened}
 use Rattle.airs.specs.Station.{station, station-layout}
-use Rattle.airs.proofs.Rows.{held, row-value}
-use Rattle.airs.proofs.table.constraint_in_row.Needs as need
+use Rattle.walk.proofs.Rows.{held, row-value}
+use Rattle.walk.proofs.constraint_in_row.Needs as need
 
 pub returns-in-Ok : need.returns-in-Ok
 returns-in-Ok g c =

@@ -1,6 +1,6 @@
-use Rattle.airs.proofs.Checks.{apart, decides}
-use Rattle.airs.proofs.Walks.{station-law}
-use Rattle.airs.proofs.table.first_failure.Needs as need
+use Rattle.walk.proofs.Checks.{apart, decides}
+use Rattle.walk.proofs.Walks.{station-law}
+use Rattle.walk.proofs.first_failure.Needs as need
 
 pub returns : need.returns
 returns g c =

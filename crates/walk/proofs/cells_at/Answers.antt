@@ -3,7 +3,7 @@ use borrow.Author.Needs.{needs}
 use mathlib.Core.List.{[]}
 use mathlib.Core.Path.{sym, ap, _∙_}
 use Rattle.std.proofs.shelf.Lists.{getD-map, getD-past, length-map}
-use Rattle.airs.proofs.table.cells_at.Needs as need
+use Rattle.walk.proofs.cells_at.Needs as need
 
 pub returns-then-row-rows : need.returns-then-row-rows
 returns-then-row-rows g c = record {

@@ -12,11 +12,11 @@ use Rattle.expression.specs.Expression.{Leaf}
 use Rattle.air.specs.Picker.{constraint-at}
 use Rattle.air.specs.Opened.{cells}
 use Rattle.air.specs.declared.opened.OpenedRows.{OpenedRows}
 use Rattle.airs.specs.Station.{station}
-use Rattle.airs.specs.Walk.{Walk, read-in}
-use Rattle.airs.specs.declared.table.Failure.{Failure}
-use Rattle.airs.specs.declared.table.StationRow.{StationRow}
-use Rattle.airs.specs.declared.table.WalkEnds.{WalkEnds}
+use Rattle.walk.specs.Walk.{Walk, read-in}
+use Rattle.walk.specs.declared.Failure.{Failure}
+use Rattle.walk.specs.declared.StationRow.{StationRow}
+use Rattle.walk.specs.declared.WalkEnds.{WalkEnds}
 
 abbrev pub table-of : {F : Type 0} → List (StationRow F) → List (List F)
 table-of rows = map (λ r. r .cells) rows
