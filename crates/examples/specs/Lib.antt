@@ -1,1 +1,2 @@
+pub mod Airs
 pub mod Domains

@@ -1,4 +1,5 @@
-// Worked examples of the library, run as tests.
+// Worked examples of the library: theorems, and tests that are run.
+mod airs;
 pub mod domains;
 mod fields;
 mod lists;

@@ -1,0 +1,5 @@
+pub mod Folder
+pub mod Opened
+pub mod Picker
+pub mod Sound
+pub mod Values
