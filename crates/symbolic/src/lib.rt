@@ -141,11 +141,17 @@ pub fn constraint_degree<F: Field, A: Air<F>>(air: &A, transition: u32) -> u32
     counter.largest.value
 }
 
+// A theorem, for the contract below.
+fn digits_round_up(n: u64)
+    ensures { λ _. ⌜ Rounded-up n (log2-ceil n) ⌝ }
+{}
+
 // The rounded-up logarithm of n; 0 at 0.
 pub fn log2_ceil(n: u64) -> usize
     ensures value { λ r. ⌜ r ≡ log2-ceil n ⌝ }
     ensures least { λ r. ⌜ Rounded-up n r ⌝ }
 {
+    digits_round_up(n);
     (64 - n.saturating_sub(1).leading_zeros()) as usize
 }
 
