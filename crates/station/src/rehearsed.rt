@@ -59,13 +59,13 @@ pub fn tell_rehearsal(rt: &LibcRuntime, rows: &[u32]) -> Result<(), AnyError> {
     if rows.is_empty() {
         return Ok(());
     }
-    match (BabyBear::from_number(rows[0]), BabyBear::from_number(rows[rows.len() - 1])) {
-        (Some(first), Some(last)) => rehearse_ends(rt, first, last),
-        _ => {
-            println!(rt, "no rehearsal: a public value is not below {}", BabyBear::order())?;
-            Ok(())
+    if let Some(first) = BabyBear::from_number(rows[0]) {
+        if let Some(last) = BabyBear::from_number(rows[rows.len() - 1]) {
+            return rehearse_ends(rt, first, last);
         }
     }
+    println!(rt, "no rehearsal: a public value is not below {}", BabyBear::order())?;
+    Ok(())
 }
 
 fn rehearse_ends(rt: &LibcRuntime, first: BabyBear, last: BabyBear) -> Result<(), AnyError> {
