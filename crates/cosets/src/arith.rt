@@ -49,6 +49,12 @@ pub fn coset<F: TwoAdic, E: Extension<F>>(shift: F, size: usize) -> Option<Coset
     ensures value { λ r. ⌜ r ≡ placed (turns F·Field F·TwoAdic) shift size ⌝ }
     ensures points { λ r. ⌜ ((d : Coset F E) → r ≡ Some d → ((bits : ℕ) × (size ≡ 2 ^ bits) × (points-of (turns F·Field F·TwoAdic) d ≡ turned-points (F·Field .ops) shift (root (F·Field .ops) (F·TwoAdic .generated) (F·TwoAdic .odd) (F·TwoAdic .bits) bits) size))) ⌝ }
 {
+    checked(shift, size)
+}
+
+fn checked<F: TwoAdic, E: Extension<F>>(shift: F, size: usize) -> Option<Coset<F, E>>
+    ensures { λ r. ⌜ r ≡ placed (turns F·Field F·TwoAdic) shift size ⌝ }
+{
     let _inverse = shift.inverse()?;
     let bits = powers::log_within(F::greatest_bits(), size)?;
     Some(Coset {

@@ -1,6 +1,6 @@
 // Periodic columns: their values between the points of a domain.
 ghost use mathlib.Core.Path.{_≡_};
-ghost use Prim.Native.Nat.{_-_, _<_, _≤_};
+ghost use Prim.Native.Nat.{_-_, _%_, _<_, _≤_};
 ghost use lib.ListN.{length, getD};
 ghost use Rattle.algebra.specs.Field.{total};
 ghost use Rattle.algebra.specs.Lagrange.{basis};
@@ -44,6 +44,16 @@ fn ratios_from<D: Domain>(d: D, a: D::Ext, i: usize, z: D::Ext) -> D::Ext
     value
 }
 
+// The place of point i's value in a column of P values.
+fn place(i: usize, count: usize) -> usize
+    requires { ⌜ 0 < count ⌝ }
+    ensures is { λ r. ⌜ r ≡ i % count ⌝ }
+    ensures below { λ r. ⌜ r < count ⌝ }
+{
+    let left = i % count;
+    left
+}
+
 // Lagrange's sum.
 fn interpolated<D: Domain>(d: D, column: &[D::Base], z: D::Ext) -> D::Ext
     requires { ⌜ 0 < length (now column) ⌝ }
@@ -55,7 +65,7 @@ fn interpolated<D: Domain>(d: D, column: &[D::Base], z: D::Ext) -> D::Ext
         i -= 1;
         let at = <D::Ext as Extension<D::Base>>::embed(d.point(i));
         let weight = ratios_before(d, at, i, z).mul(ratios_from(d, at, i + 1, z));
-        let sample = <D::Ext as Extension<D::Base>>::embed(column[i % column.len()]);
+        let sample = <D::Ext as Extension<D::Base>>::embed(column[place(i, column.len())]);
         value = sample.mul(weight).add(value);
     }
     value

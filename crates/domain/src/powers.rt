@@ -27,6 +27,13 @@ fn power_of_parity<E: Field>(x: E, n: usize) -> E
 pub fn power<E: Field>(x: E, n: usize) -> E
     ensures { λ r. ⌜ r ≡ pow ops x n ⌝ }
 {
+    by_bits(x, n)
+}
+
+// The bits of n, the lowest first.
+fn by_bits<E: Field>(x: E, n: usize) -> E
+    ensures { λ r. ⌜ r ≡ pow ops x n ⌝ }
+{
     let mut value = E::one();
     let mut square = x;
     let mut left = n;
@@ -50,6 +57,13 @@ pub fn inverse_or_zero<E: Field>(x: E) -> E
 
 // log n, where n is a power of two and the logarithm is at most `most`.
 pub fn log_within(most: u32, n: usize) -> Option<u32>
+    ensures { λ r. ⌜ r ≡ log-within most n ⌝ }
+{
+    first_log(most, n)
+}
+
+// The first k up to `most` with n = 2^k.
+fn first_log(most: u32, n: usize) -> Option<u32>
     ensures { λ r. ⌜ r ≡ log-within most n ⌝ }
 {
     for k in 0..64u32 {

@@ -74,6 +74,16 @@ pub fn progression<F: PrimeField, E: Extension<F>>(
     ensures value { λ r. ⌜ r ≡ placed (numbers F·Field F·PrimeField) start step size ⌝ }
     ensures points { λ r. ⌜ ((d : Progression F E) → r ≡ Some d → points-of (numbers F·Field F·PrimeField) d ≡ terms (F·Field .ops) start step 0 size) ⌝ }
 {
+    checked(start, step, size)
+}
+
+fn checked<F: PrimeField, E: Extension<F>>(
+    start: F,
+    step: F,
+    size: usize,
+) -> Option<Progression<F, E>>
+    ensures { λ r. ⌜ r ≡ placed (numbers F·Field F·PrimeField) start step size ⌝ }
+{
     let _inverse = step.inverse()?;
     let bits = powers::log_within(most_bits::<F>(), size)?;
     Some(Progression {

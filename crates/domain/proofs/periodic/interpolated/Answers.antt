@@ -1,6 +1,6 @@
 use mathlib.Core.Path.{_≡_, sym, ap, ap₂, _∙_}
 use Prim.Native.Nat.{_+_, _-_, _%_, _<_, _≤_}
-use native.Mathlib.Nat.{mod-lt, sub-zero}
+use native.Mathlib.Nat.{sub-zero}
 use native.Mathlib.Omega.{arith}
 use lib.ListN.{length, getD}
 use Rattle.algebra.specs.Field.{total}
@@ -24,7 +24,8 @@ loop-i-again g c =
     let some : 0 < j = omega arith in
     let next : j - 1 + 1 ≡ j = omega arith in
     let at = c .embed-at .ensures ∙ ap e (c .point .ensures) in
-    let sample = c .embed-sample .ensures ∙ ap e (c .index-column-i .is ∙ getD-any column ((j - 1) % length column) (c .index-column-i .result) none (mod-lt (j - 1) {m = length column} (c .pre))) in
+    let read = c .place .ensures .is in
+    let sample = c .embed-sample .ensures ∙ ap e (c .index-column-place .is ∙ getD-any column (c .place .result) (c .index-column-place .result) none (c .place .ensures .below) ∙ ap (λ k. getD column k none) read) in
     let before = c .ratios-before .ensures ∙ ap (λ x. basis o inv x (earlier none e points (j - 1)) z) at in
     let after = c .ratios-from .ensures ∙ ap₂ (λ x k. basis o inv x (later none e points k (n - k)) z) at next in
     let weight = c .mul-weight .ensures ∙ ap₂ (o .mul) before after in (

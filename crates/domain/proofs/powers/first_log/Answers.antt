@@ -5,7 +5,7 @@ use native.Mathlib.Omega.{arith}
 use lib.Pow.{pow-lt}
 use Rattle.domain.specs.Logarithm.{log-from}
 use Rattle.domain.proofs.Logs.{log-hit, log-miss, log-end, log-small}
-use Rattle.domain.proofs.powers.log_within.Needs as need
+use Rattle.domain.proofs.powers.first_log.Needs as need
 
 pub loop-k-holds : need.loop-k-holds
 loop-k-holds c =
