@@ -6,6 +6,11 @@ mod walked;
 
 use bench_list::list;
 use bench_list::list::ListFault;
+use field::traits::PrimeField;
+use residue::arith::ResidueField;
+use residue::moduli::BabyBear;
+use residue::moduli::BabyBearModulus;
+use residue::moduli::BabyBearPrimeField;
 use std::alloc::AllocError;
 use std::error::AnyError;
 use std::io::Read;
@@ -34,6 +39,19 @@ fn told(rt: &LibcRuntime, fault: ListFault) -> Result<String, AllocError> {
 fn tell(rt: &LibcRuntime, rows: &[u32]) -> Result<(), AnyError> {
     risen::tell_list(rt, rows)?;
     stood::tell_domain(rt, rows)?;
+    if passes_order(rows) {
+        println!(rt, "a number is not below {}, so there is no rehearsal and no table", BabyBear::order())?;
+        return Ok(());
+    }
     rehearsed::tell_rehearsal(rt, rows)?;
     walked::tell_table(rt, rows)
+}
+
+fn passes_order(rows: &[u32]) -> bool {
+    for number in rows {
+        if *number >= BabyBear::order() {
+            return true;
+        }
+    }
+    false
 }
