@@ -31,7 +31,10 @@ fn run(rt: &LibcRuntime) -> Result<(), AnyError> {
 
 fn told(rt: &LibcRuntime, fault: ListFault) -> Result<String, AllocError> {
     match fault {
-        ListFault::NotANumber { line } => format!(rt.alloc(), "line {line}: not a number below 4294967296"),
+        ListFault::NotANumber { line } => format!(
+            rt.alloc(),
+            "line {line}: not a number below 4294967296"
+        ),
         ListFault::TooManyRows { line } => format!(rt.alloc(), "line {line}: more than 64 rows"),
     }
 }
@@ -40,7 +43,11 @@ fn tell(rt: &LibcRuntime, rows: &[u32]) -> Result<(), AnyError> {
     risen::tell_list(rt, rows)?;
     stood::tell_domain(rt, rows)?;
     if passes_order(rows) {
-        println!(rt, "a number is not below {}, so there is no rehearsal and no table", BabyBear::order())?;
+        println!(
+            rt,
+            "a number is not below {}, so there is no rehearsal and no table",
+            BabyBear::order()
+        )?;
         return Ok(());
     }
     rehearsed::tell_rehearsal(rt, rows)?;

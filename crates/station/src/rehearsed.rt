@@ -17,6 +17,7 @@ use transcript::shape::StarkShape;
 
 // Columns 0 to 8 for the trace, and columns 9 and 10 for one chunk, as first column * 256 + count.
 const TRACE: u64 = 9;
+
 const QUOTIENT: u64 = 2306;
 
 // The station AIR on 2^6 rows: nine columns, two public values, a next row, one chunk.
@@ -64,7 +65,11 @@ pub fn tell_rehearsal(rt: &LibcRuntime, rows: &[u32]) -> Result<(), AnyError> {
             return rehearse_ends(rt, first, last);
         }
     }
-    println!(rt, "no rehearsal: a public value is not below {}", BabyBear::order())?;
+    println!(
+        rt,
+        "no rehearsal: a public value is not below {}",
+        BabyBear::order()
+    )?;
     Ok(())
 }
 

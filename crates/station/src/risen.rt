@@ -23,10 +23,21 @@ pub fn tell_list(rt: &LibcRuntime, rows: &[u32]) -> Result<(), AnyError> {
 fn tell_break(rt: &LibcRuntime, rows: &[u32], found: Break) -> Result<(), AnyError> {
     match found {
         Break::Duplicate { row, of } => {
-            println!(rt, "row {}: {} is a duplicate of row {}", row.saturating_add(1), number(rows, row), of.saturating_add(1))?;
+            println!(
+                rt,
+                "row {}: {} is a duplicate of row {}",
+                row.saturating_add(1),
+                number(rows, row),
+                of.saturating_add(1)
+            )?;
         }
         Break::Fall { row } => {
-            println!(rt, "row {}: {} falls", row.saturating_add(1), number(rows, row))?;
+            println!(
+                rt,
+                "row {}: {} falls",
+                row.saturating_add(1),
+                number(rows, row)
+            )?;
         }
     }
     Ok(())

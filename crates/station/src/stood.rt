@@ -17,7 +17,10 @@ use std::error::AnyError;
 
 pub fn tell_domain(rt: &LibcRuntime, rows: &[u32]) -> Result<(), AnyError> {
     match powers::log_within(6, rows.len()) {
-        None => println!(rt, "no domain: the number of rows is not a power of two up to 64")?,
+        None => println!(
+            rt,
+            "no domain: the number of rows is not a power of two up to 64"
+        )?,
         Some(bits) => {
             let found: Option<Coset<BabyBear, Pair<BabyBear>>> = arith::natural(bits);
             if let Some(domain) = found {
@@ -30,7 +33,11 @@ pub fn tell_domain(rt: &LibcRuntime, rows: &[u32]) -> Result<(), AnyError> {
 
 fn tell_points(rt: &LibcRuntime, domain: Coset<BabyBear, Pair<BabyBear>>) -> Result<(), AnyError> {
     let size = domain.size();
-    print!(rt, "domain: coset of {size} points modulo {}, the first", BabyBear::order())?;
+    print!(
+        rt,
+        "domain: coset of {size} points modulo {}, the first",
+        BabyBear::order()
+    )?;
     for i in 0..size.min(4) {
         let point = domain.point(i);
         print!(rt, " {}", point.number())?;

@@ -28,10 +28,16 @@ pub fn tell_table(rt: &LibcRuntime, rows: &[u32]) -> Result<(), AnyError> {
     }
     let laid = table(rt.alloc(), rows)?;
     let ends = WalkEnds {
-        values: [BabyBear::from_u32(rows[0]), BabyBear::from_u32(rows[rows.len() - 1])],
+        values: [
+            BabyBear::from_u32(rows[0]),
+            BabyBear::from_u32(rows[rows.len() - 1]),
+        ],
     };
     if walk::first_failure(&laid, &ends).is_none() {
-        println!(rt, "every constraint of the station AIR is zero on every row")?;
+        println!(
+            rt,
+            "every constraint of the station AIR is zero on every row"
+        )?;
         return Ok(());
     }
     for row in 0..rows.len() {
@@ -41,10 +47,19 @@ pub fn tell_table(rt: &LibcRuntime, rows: &[u32]) -> Result<(), AnyError> {
 }
 
 // Rows are told from 1, constraints from 0 as the AIR lists them.
-fn tell_row(rt: &LibcRuntime, laid: &[StationRow<BabyBear>], ends: &WalkEnds<BabyBear>, row: usize) -> Result<(), AnyError> {
+fn tell_row(
+    rt: &LibcRuntime,
+    laid: &[StationRow<BabyBear>],
+    ends: &WalkEnds<BabyBear>,
+    row: usize,
+) -> Result<(), AnyError> {
     for constraint in 0..11usize {
         if !walk::vanishes_in_row(laid, ends, row, constraint) {
-            println!(rt, "row {}: constraint {constraint} is not zero", row.saturating_add(1))?;
+            println!(
+                rt,
+                "row {}: constraint {constraint} is not zero",
+                row.saturating_add(1)
+            )?;
         }
     }
     Ok(())
