@@ -56,7 +56,7 @@ fn requests() -> [Request; 5] {
     ]
 }
 
-pub fn tell_rehearsal(rt: &LibcRuntime, rows: &[u32]) -> Result<(), AnyError> {
+pub(crate) fn tell_rehearsal(rt: &LibcRuntime, rows: &[u32]) -> Result<(), AnyError> {
     if rows.is_empty() {
         return Ok(());
     }

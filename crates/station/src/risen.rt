@@ -3,7 +3,7 @@ use bench_list::breaks;
 use bench_list::breaks::Break;
 use std::error::AnyError;
 
-pub fn tell_list(rt: &LibcRuntime, rows: &[u32]) -> Result<(), AnyError> {
+pub(crate) fn tell_list(rt: &LibcRuntime, rows: &[u32]) -> Result<(), AnyError> {
     println!(rt, "rows: {}", rows.len())?;
     let breaks = breaks::count_breaks(rows);
     if breaks == 0 {

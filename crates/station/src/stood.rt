@@ -15,7 +15,7 @@ use residue::moduli::BabyBearPrimeField;
 use residue::roots::BabyBearTwoAdic;
 use std::error::AnyError;
 
-pub fn tell_domain(rt: &LibcRuntime, rows: &[u32]) -> Result<(), AnyError> {
+pub(crate) fn tell_domain(rt: &LibcRuntime, rows: &[u32]) -> Result<(), AnyError> {
     match powers::log_within(6, rows.len()) {
         None => println!(
             rt,

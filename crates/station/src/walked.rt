@@ -22,7 +22,7 @@ fn table(heap: Global, rows: &[u32]) -> Result<Vec<StationRow<BabyBear>>, AllocE
     Ok(laid)
 }
 
-pub fn tell_table(rt: &LibcRuntime, rows: &[u32]) -> Result<(), AnyError> {
+pub(crate) fn tell_table(rt: &LibcRuntime, rows: &[u32]) -> Result<(), AnyError> {
     if rows.is_empty() {
         return Ok(());
     }
