@@ -7,7 +7,7 @@ use Rattle.std.specs.declared.option.Option.{Option}
 use Rattle.algebra.specs.Ring.{RingOps, pow}
 use Rattle.field.specs.Numbers.{when}
 
--- The field has odd * 2^bits elements but zero, all powers of the generator.
+-- What roots of unity need of an element; that its powers are all elements but zero is not said.
 pub record TwoAdicLaws {F : Type 0} (ops : RingOps F) (generator : F) (odd bits apart : ℕ) : Type 0 where
   pub some : 0 < bits
   pub few : bits ≤ 31

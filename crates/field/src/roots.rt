@@ -5,7 +5,7 @@ ghost use Rattle.algebra.specs.Ring.{pow};
 ghost use Rattle.field.specs.TwoAdic.{TwoAdicLaws, HasOrder, root, root-within};
 use crate::traits::PrimeField;
 
-// Its elements but zero are the odd * 2^bits powers of the generator.
+// A fixed element whose power odd * 2^(bits - 1) is -1, so that its powers have roots of unity of each order up to 2^bits.
 pub trait TwoAdic: PrimeField {
     ghost generated: { Self };
 
