@@ -1,4 +1,6 @@
 // Rings, fields and polynomials. Nothing here runs: each function's contract is a theorem that the other crates rely on.
+#![tactic(auto)]
+
 ghost use Rattle.std.specs.Prelude.{◌≡◌, ℕ, ◌^◌, ◌≤◌, ◌≢◌, List, ◌∷◌, length, Option};
 ghost use Rattle.algebra.specs.Ring.{RingOps, RingLaws, pow, sub};
 ghost use Rattle.algebra.specs.Field.{FieldLaws};

@@ -1,4 +1,6 @@
 // The bench's side: a list of stations laid out as rows of the station AIR's columns. It is no part of the verifier.
+#![tactic(auto)]
+
 ghost use Rattle.std.specs.Prelude.{map, ◌∷◌, [], ◌≡◌, ◌/◌, ◌%◌, ◌<◌};
 ghost use Rattle.algebra.specs.Ring.{nat};
 ghost use Rattle.bench.specs.Layout.{gap, weights};

@@ -1,4 +1,6 @@
 // Cosets of a group of 2^bits roots of unity.
+#![tactic(auto)]
+
 pub mod arith;
 
 // The points are shift * g^i, where g has the order 2^bits.

@@ -1,4 +1,6 @@
 // Worked examples of the library: theorems, and tests that are run.
+#![tactic(auto)]
+
 mod airs;
 pub mod domains;
 mod fields;

@@ -1,4 +1,6 @@
 // Progressions: points at even steps.
+#![tactic(auto)]
+
 pub mod arith;
 
 // The points are start + i * step, for i below 2^bits.

@@ -1,4 +1,6 @@
 // Both ends driven over lists of requests.
+#![tactic(auto)]
+
 mod prover_run;
 pub mod rehearse;
 pub mod request;

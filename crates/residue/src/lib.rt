@@ -1,4 +1,6 @@
 // The numbers below a prime P, one text for every P.
+#![tactic(auto)]
+
 ghost use Rattle.std.specs.Prelude.{◌≡◌, ◌<◌};
 ghost use Rattle.residue.specs.Prime.{Prime};
 

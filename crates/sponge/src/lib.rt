@@ -1,4 +1,6 @@
 // Sponges: a state that takes 32-bit numbers and gives 32-bit words.
+#![tactic(auto)]
+
 ghost use Rattle.std.specs.Prelude.{◌≡◌, ℕ};
 ghost use Rattle.sponge.specs.Steps.{Steps, passing};
 ghost use Rattle.sponge.specs.Duplexes.{duplex_steps, zero_duplex};

@@ -1,4 +1,6 @@
 // Reads a bench list from standard input, and tells what a bench and a verifier would make of it.
+#![tactic(auto)]
+
 mod rehearsed;
 mod risen;
 mod stood;

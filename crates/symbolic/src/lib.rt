@@ -1,4 +1,6 @@
 // The degree counter: an AIR's constraints over degrees in the place of values, and the number of chunks that a quotient takes.
+#![tactic(auto)]
+
 ghost use Rattle.std.specs.Prelude.{◌≡◌};
 ghost use Rattle.expression.specs.Degree.{largest_degree, leaf_degree};
 ghost use Rattle.symbolic.specs.Degrees.{counted, degree_operations, larger, of_degree};

@@ -1,4 +1,6 @@
 // The transcript of a run: its shape, the seed, the challenges, and the two phases over a sponge.
+#![tactic(auto)]
+
 mod absorb;
 pub mod challenge;
 pub mod failure;

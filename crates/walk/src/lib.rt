@@ -1,4 +1,6 @@
 // A table of stations: the values of the station AIR's constraints on its rows, and the first that is not zero.
+#![tactic(auto)]
+
 ghost use Rattle.std.specs.Prelude.{◌≡◌, ◌+◌, ◌-◌, ◌*◌, ◌<◌, true, [], length, None, Option, slice_index_or};
 ghost use Rattle.algebra.specs.Field.{Decides};
 ghost use Rattle.air.specs.Opened.{cells, covers, next_covers};

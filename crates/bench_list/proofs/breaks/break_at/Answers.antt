@@ -5,6 +5,6 @@ use Rattle.bench_list.proofs.breaks.break_at.Goals as goal
 
 pub returns : goal.returns
 returns c =
-    let place = simp sub-zero at c.first-place-of.ensures in
+    let place = simp sub-zero at c.first_place-of.ensures in
     ap Some c.named.ensures
-    ∙ is_broken c.args.rows.now c.args.row c.first-place-of.result (omega arith) (sym c.rises.ensures ∙ c.if-rises.false) place
+    ∙ is_broken c.args.rows.now c.args.row c.first_place-of.result (omega arith) (sym c.rises.ensures ∙ c.if-rises.false) place

@@ -10,8 +10,8 @@ loop-row-preserved c =
     let row = c.loop-row.row in
     let more = one_more_row xs row c.rises.result c.rises.ensures in
     elim c.if-not-rises.branch [
-      | then-not-rises w ↦ (omega (arith, w.count_is, c.loop-row.invariant.0), omega (arith, w.count_is, c.loop-row.invariant.1, more, ap (λ t. cond {A = ℕ} t 0 1) w.if-not-rises.true))
-      | else-not-rises w ↦ (omega (arith, w.count_is, c.loop-row.invariant.0), omega (arith, w.count_is, c.loop-row.invariant.1, more, ap (λ t. cond {A = ℕ} t 0 1) w.if-not-rises.false))
+      | then-not-rises w ↦ (omega (arith, w.count-is, c.loop-row.invariant.0), omega (arith, w.count-is, c.loop-row.invariant.1, more, ap (λ t. cond {A = ℕ} t 0 1) w.if-not-rises.true))
+      | else-not-rises w ↦ (omega (arith, w.count-is, c.loop-row.invariant.0), omega (arith, w.count-is, c.loop-row.invariant.1, more, ap (λ t. cond {A = ℕ} t 0 1) w.if-not-rises.false))
     ]
 
 pub returns : goal.returns

@@ -7,8 +7,8 @@ use Rattle.bench_list.proofs.lines.all_blank.Goals as goal
 pub loop-b-preserved : goal.loop-b-preserved
 loop-b-preserved c =
     let bs = c.args.line.now in
-    c.loop-b.invariant ∙ blank_step bs c.loop-b.b-index _ c.loop-b-test.true c.is-blank.ensures
-    ∙ ap (λ t. cond t (all_blank (drop (c.loop-b.b-index + 1) bs)) false) c.if-not-is-blank.false
+    c.loop-b.invariant ∙ blank_step bs c.loop-b.b-index _ c.loop-b-test.true c.is_blank.ensures
+    ∙ ap (λ t. cond t (all_blank (drop (c.loop-b.b-index + 1) bs)) false) c.if-not-is_blank.false
 
 pub returns-then-not-is-blank : goal.returns-then-not-is-blank
 returns-then-not-is-blank c =

@@ -5,7 +5,7 @@ use Rattle.bench_list.proofs.lines.line_end.Goals as goal
 
 pub loop-end-preserved : goal.loop-end-preserved
 loop-end-preserved c =
-    let inner = c.is-newline.ensures ∙ ap not c.if-is-newline.false in
+    let inner = c.is_newline.ensures ∙ ap not c.if-is_newline.false in
     omega (arith, c.loop-end.invariant, prefix_len-drop_yes inside c.args.text.now c.loop-end.end 0 c.loop-end-test.true inner)
 
 pub returns-then-is-newline : goal.returns-then-is-newline

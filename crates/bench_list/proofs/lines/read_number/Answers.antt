@@ -11,8 +11,8 @@ loop-b-preserved c =
     let n = c.loop-b.value in (
       omega arith,
       c.loop-b.invariant.1
-          ∙ ap small (digit_step n bs i _ c.loop-b-test.true c.is-digit.ensures
-          ∙ ap (λ t. cond t (decimal_after (n * 10 + (get_or bs i 0 - 48)) (drop (i + 1) bs)) None) c.if-not-is-digit.false),
+          ∙ ap small (digit_step n bs i _ c.loop-b-test.true c.is_digit.ensures
+          ∙ ap (λ t. cond t (decimal_after (n * 10 + (get_or bs i 0 - 48)) (drop (i + 1) bs)) None) c.if-not-is_digit.false),
     )
 
 pub returns-then-not-is-digit : goal.returns-then-not-is-digit
@@ -30,8 +30,8 @@ returns-then-value-gt4294967295 c =
     let i = c.loop-b.b-index in
     let n = c.loop-b.value in
     sym (c.loop-b.invariant.1
-    ∙ ap small (digit_step n bs i _ c.loop-b-test.true c.is-digit.ensures
-    ∙ ap (λ t. cond t (decimal_after (n * 10 + (get_or bs i 0 - 48)) (drop (i + 1) bs)) None) c.if-not-is-digit.false)
+    ∙ ap small (digit_step n bs i _ c.loop-b-test.true c.is_digit.ensures
+    ∙ ap (λ t. cond t (decimal_after (n * 10 + (get_or bs i 0 - 48)) (drop (i + 1) bs)) None) c.if-not-is_digit.false)
     ∙ too_large (n * 10 + (get_or bs i 0 - 48)) (drop (i + 1) bs) (omega arith))
 
 pub returns : goal.returns

@@ -20,16 +20,16 @@ returns-in-err-count c =
 
 pub returns-then-end-text : goal.returns-then-end-text
 returns-then-end-text c =
-    let is_last = last_line c.args.text.now c.lines.at c.line-end-end.result c.lines.invariant.0 c.line-end-end.ensures c.if-end-text.true in
-    let going = line_taken _ _ _ _ _ _ [] _ (Ok c.in-ok-count.count) _ is_last c.lines.invariant.2 c.in-ok-count.ensures in
+    let is_last = last_line c.args.text.now c.lines.at c.line_end-end.result c.lines.invariant.0 c.line_end-end.ensures c.if-end-text.true in
+    let going = line_taken _ _ _ _ _ _ [] _ (Ok c.in_ok-count.count) _ is_last c.lines.invariant.2 c.in_ok-count.ensures in
     record { read = done _ _ _ _ going; within = going.few }
 
 pub lines-preserved : goal.lines-preserved
 lines-preserved c =
     let text = c.args.text.now in
-    let end = c.line-end-end.result in
-    let more = more_lines text c.lines.at end c.lines.invariant.0 c.line-end-end.ensures c.if-end-text.false in (
+    let end = c.line_end-end.result in
+    let more = more_lines text c.lines.at end c.lines.invariant.0 c.line_end-end.ensures c.if-end-text.false in (
       omega arith,
-      omega (arith, c.lines.invariant.1, c.line-end-end.ensures),
-      rw add-one (line_taken _ _ _ _ _ _ (lines_of (drop (end + 1) text)) _ (Ok c.in-ok-count.count) _ more c.lines.invariant.2 c.in-ok-count.ensures),
+      omega (arith, c.lines.invariant.1, c.line_end-end.ensures),
+      rw add-one (line_taken _ _ _ _ _ _ (lines_of (drop (end + 1) text)) _ (Ok c.in_ok-count.count) _ more c.lines.invariant.2 c.in_ok-count.ensures),
     )
