@@ -116,7 +116,7 @@ pub fn assert_bools<R: Rows, B: AirBuilder<R::Expr>>(
     from: usize,
     to: usize,
 )
-    ensures { builder.new ≡ asserted step R.Expr.Algebra.operations (reads rows.now) builder.old (booleans from (to - from)) }
+    ensures { builder.new ≡ asserted B.step R.Expr.Algebra.operations (R.reads rows.now) builder.old (booleans from (to - from)) }
 {
     for column in from..to {
         let bit = rows.main(column);

@@ -26,7 +26,7 @@ impl<E: Field> AirBuilder<Value<E>> for VerifierConstraintFolder<E> {
 
 // A theorem, for the contract below.
 fn declared_suffices<F: Field, E: Field, A: Air<F>>(air: &A)
-    ensures { DeclaredSuffices E.Field.ops (declared air.now) (constraints air.now) }
+    ensures { DeclaredSuffices E.Field.ops (A.declared air.now) (A.constraints air.now) }
 {}
 
 // The AIR's constraints over the rows, folded by alpha from zero. No cell but the declared ones has a part in it.
@@ -35,8 +35,8 @@ pub fn fold_constraints<F: Field, E: Extension<F>, A: Air<F>>(
     rows: &OpenedRows<F, E>,
     alpha: E,
 ) -> Result<E, AirInputsTooShort>
-    ensures value { result ≡ fold_or_refusal E.Field.ops embedded (declared air.now) (constraints air.now) rows.now alpha }
-    ensures declared { DeclaredSuffices E.Field.ops (declared air.now) (constraints air.now) }
+    ensures value { result ≡ fold_or_refusal E.Field.ops E.embedded (A.declared air.now) (A.constraints air.now) rows.now alpha }
+    ensures declared { DeclaredSuffices E.Field.ops (A.declared air.now) (A.constraints air.now) }
 {
     declared_suffices::<F, E, A>(air);
     if !rows.covers(&air.layout()) {

@@ -30,7 +30,7 @@ impl Copy for AirInputsTooShort {}
 
 // The cell of a row, or zero past its end.
 fn cell<E: Field>(row: &[E], column: usize) -> E
-    ensures { result ≡ slice_index_or row.now column ops.zero }
+    ensures { result ≡ slice_index_or row.now column E.ops.zero }
 {
     if column < row.len() {
         row[column]
@@ -41,7 +41,7 @@ fn cell<E: Field>(row: &[E], column: usize) -> E
 
 // The same of a list over the base field.
 fn embedded_cell<F: Field, E: Extension<F>>(list: &[F], index: usize) -> E
-    ensures { result ≡ slice_index_or (map embedded list.now) index E.Field.ops.zero }
+    ensures { result ≡ slice_index_or (map E.embedded list.now) index E.Field.ops.zero }
 {
     if index < list.len() {
         E::embed(list[index])
@@ -52,7 +52,7 @@ fn embedded_cell<F: Field, E: Extension<F>>(list: &[F], index: usize) -> E
 
 // The same of a row that may be absent.
 fn cell_if_any<E: Field>(row: Option<&[E]>, column: usize) -> E
-    ensures { result ≡ slice_index_or (cells row.entry) column ops.zero }
+    ensures { result ≡ slice_index_or (cells row.entry) column E.ops.zero }
 {
     match row {
         Some(row) => cell(row, column),

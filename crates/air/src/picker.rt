@@ -36,7 +36,7 @@ pub fn constraint_value<F: Field, E: Extension<F>, A: Air<F>>(
     rows: &OpenedRows<F, E>,
     index: usize,
 ) -> Result<Option<E>, AirInputsTooShort>
-    ensures { result ≡ constraint_or_refusal E.Field.ops embedded (declared air.now) (constraints air.now) rows.now index }
+    ensures { result ≡ constraint_or_refusal E.Field.ops E.embedded (A.declared air.now) (A.constraints air.now) rows.now index }
 {
     if !rows.covers(&air.layout()) {
         return Err(AirInputsTooShort);

@@ -9,7 +9,7 @@ use field::traits::Field;
 
 // The number that the bits write, the lowest first.
 fn byte<R: Rows>(rows: &R) -> R::Expr
-    ensures { result ≡ meaning R.Expr.Algebra.operations (reads rows.now) the_byte }
+    ensures { result ≡ meaning R.Expr.Algebra.operations (R.reads rows.now) the_byte }
 {
     rows.number(1) * rows.main(1)
         + rows.number(2) * rows.main(2)

@@ -13,7 +13,7 @@ impl<F: Copy> Copy for WeightAir<F> {}
 
 impl<F: Field> WeightAir<F> {
     pub fn new() -> WeightAir<F>
-        ensures { result.k ≡ ops.one ∷ ops.zero ∷ [] }
+        ensures { result.k ≡ F.ops.one ∷ F.ops.zero ∷ [] }
     {
         WeightAir {
             k: [F::one(), F::zero()],

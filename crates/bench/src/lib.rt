@@ -11,7 +11,7 @@ use walk::StationRow;
 // The bit of that weight.
 fn bit<F: Field>(n: u32, weight: u32) -> F
     requires { 0 < weight }
-    ensures { result ≡ nat ops (n / weight % 2) }
+    ensures { result ≡ nat F.ops (n / weight % 2) }
 {
     F::from_u32(n / weight % 2)
 }
@@ -19,7 +19,7 @@ fn bit<F: Field>(n: u32, weight: u32) -> F
 // The row of a station, with the next one: its number, and the bits of the step less 1, modulo 256.
 // A step that does not rise has no bits set, and so has the last row, which is its own next one.
 pub fn station_row<F: Field>(station: u32, next: u32) -> StationRow<F>
-    ensures { result.cells ≡ nat ops station ∷ map (λ w. nat ops (gap station next / w % 2)) weights }
+    ensures { result.cells ≡ nat F.ops station ∷ map (λ w. nat F.ops (gap station next / w % 2)) weights }
 {
     let n = next.saturating_sub(station).saturating_sub(1) % 256;
     StationRow {

@@ -103,7 +103,7 @@ pub fn selectors<F: TwoAdic, E: Extension<F>>(d: Coset<F, E>, z: E) -> Option<Se
 
 // V / (u - 1), V / (u - back), u - back and the inverse of V.
 fn chosen<E: Field>(v: E, u: E, back: E, inverse: E) -> Selectors<E>
-    ensures { result ≡ record { first = ops.mul v (total ops inverted (sub ops u ops.one)); last = ops.mul v (total ops inverted (sub ops u back)); transition = sub ops u back; inverse = inverse } }
+    ensures { result ≡ record { first = E.ops.mul v (total E.ops E.inverted (sub E.ops u E.ops.one)); last = E.ops.mul v (total E.ops E.inverted (sub E.ops u back)); transition = sub E.ops u back; inverse = inverse } }
 {
     let transition = u.sub(back);
     Selectors {

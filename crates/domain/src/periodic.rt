@@ -12,7 +12,7 @@ use field::traits::Field;
 
 // (z - other) / (a - other)
 fn ratio<E: Field>(a: E, other: E, z: E) -> E
-    ensures { result ≡ ops.mul (total ops inverted (sub ops a other)) (sub ops z other) }
+    ensures { result ≡ E.ops.mul (total E.ops E.inverted (sub E.ops a other)) (sub E.ops z other) }
 {
     powers::inverse_or_zero(a.sub(other)).mul(z.sub(other))
 }

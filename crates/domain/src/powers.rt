@@ -8,7 +8,7 @@ use field::traits::Field;
 
 // x squared k times.
 pub fn squared<E: Field>(x: E, k: u32) -> E
-    ensures { result ≡ pow ops x (2 ^ k) }
+    ensures { result ≡ pow E.ops x (2 ^ k) }
 {
     let mut value = x;
     for _ in 0..k {
@@ -18,21 +18,21 @@ pub fn squared<E: Field>(x: E, k: u32) -> E
 }
 
 fn power_of_parity<E: Field>(x: E, n: usize) -> E
-    ensures { result ≡ pow ops x (n % 2) }
+    ensures { result ≡ pow E.ops x (n % 2) }
 {
     if n % 2 == 1 { x } else { E::one() }
 }
 
 // By squaring.
 pub fn power<E: Field>(x: E, n: usize) -> E
-    ensures { result ≡ pow ops x n }
+    ensures { result ≡ pow E.ops x n }
 {
     by_bits(x, n)
 }
 
 // The bits of n, the lowest first.
 fn by_bits<E: Field>(x: E, n: usize) -> E
-    ensures { result ≡ pow ops x n }
+    ensures { result ≡ pow E.ops x n }
 {
     let mut value = E::one();
     let mut square = x;
@@ -47,7 +47,7 @@ fn by_bits<E: Field>(x: E, n: usize) -> E
 
 // The inverse, and zero at zero.
 pub fn inverse_or_zero<E: Field>(x: E) -> E
-    ensures { result ≡ total ops inverted x }
+    ensures { result ≡ total E.ops E.inverted x }
 {
     match x.inverse() {
         Some(y) => y,

@@ -50,7 +50,7 @@ pub enum ProverZeta<E> {
 impl ProverStart {
     pub fn new<S: Sponge>(sponge: &mut S, shape: StarkShape) -> ProverStart
         ensures end { result.shape ≡ shape }
-        ensures left { sponge.new ≡ takes steps (seed shape) sponge.old }
+        ensures left { sponge.new ≡ takes S.steps (seed shape) sponge.old }
     {
         take_seed(sponge, &shape);
         ProverStart { shape }
@@ -63,8 +63,8 @@ impl ProverStart {
         preprocessed: Option<u64>,
         public_values: &[F],
     ) -> ProverAlpha<E>
-        ensures answer { result ≡ prover_alpha self.shape (constraint_answer steps (over modulus E.Field.ops dim basis) self.shape (first trace preprocessed (map numbered public_values.now)) sponge.old) }
-        ensures left { sponge.new ≡ constraint_left steps (over modulus E.Field.ops dim basis) self.shape (first trace preprocessed (map numbered public_values.now)) sponge.old }
+        ensures answer { result ≡ prover_alpha self.shape (constraint_answer S.steps (over F.modulus E.Field.ops E.dim E.basis) self.shape (first trace preprocessed (map F.numbered public_values.now)) sponge.old) }
+        ensures left { sponge.new ≡ constraint_left S.steps (over F.modulus E.Field.ops E.dim E.basis) self.shape (first trace preprocessed (map F.numbered public_values.now)) sponge.old }
     {
         let ProverStart { shape } = self;
         match constraint_phase::<S, F, E>(shape, sponge, trace, preprocessed, public_values) {
@@ -95,8 +95,8 @@ impl ProverMid {
         random: Option<u64>,
         budget: u32,
     ) -> ProverZeta<E>
-        ensures answer { result ≡ prover_zeta self.shape (prover_answer steps (over modulus E.Field.ops dim basis) self.shape quotient random budget sponge.old) }
-        ensures left { sponge.new ≡ prover_left steps (over modulus E.Field.ops dim basis) self.shape quotient random budget sponge.old }
+        ensures answer { result ≡ prover_zeta self.shape (prover_answer S.steps (over F.modulus E.Field.ops E.dim E.basis) self.shape quotient random budget sponge.old) }
+        ensures left { sponge.new ≡ prover_left S.steps (over F.modulus E.Field.ops E.dim E.basis) self.shape quotient random budget sponge.old }
     {
         let ProverMid { shape } = self;
         match prover_ood_phase::<S, F, E>(shape, sponge, quotient, random, budget) {

@@ -50,7 +50,7 @@ pub enum VerifierZeta<E> {
 impl VerifierStart {
     pub fn new<S: Sponge>(sponge: &mut S, shape: StarkShape) -> VerifierStart
         ensures end { result.shape ≡ shape }
-        ensures left { sponge.new ≡ takes steps (seed shape) sponge.old }
+        ensures left { sponge.new ≡ takes S.steps (seed shape) sponge.old }
     {
         take_seed(sponge, &shape);
         VerifierStart { shape }
@@ -63,8 +63,8 @@ impl VerifierStart {
         preprocessed: Option<u64>,
         public_values: &[F],
     ) -> VerifierAlpha<E>
-        ensures answer { result ≡ verifier_alpha self.shape (constraint_answer steps (over modulus E.Field.ops dim basis) self.shape (first trace preprocessed (map numbered public_values.now)) sponge.old) }
-        ensures left { sponge.new ≡ constraint_left steps (over modulus E.Field.ops dim basis) self.shape (first trace preprocessed (map numbered public_values.now)) sponge.old }
+        ensures answer { result ≡ verifier_alpha self.shape (constraint_answer S.steps (over F.modulus E.Field.ops E.dim E.basis) self.shape (first trace preprocessed (map F.numbered public_values.now)) sponge.old) }
+        ensures left { sponge.new ≡ constraint_left S.steps (over F.modulus E.Field.ops E.dim E.basis) self.shape (first trace preprocessed (map F.numbered public_values.now)) sponge.old }
     {
         let VerifierStart { shape } = self;
         match constraint_phase::<S, F, E>(shape, sponge, trace, preprocessed, public_values) {
@@ -94,8 +94,8 @@ impl VerifierMid {
         random: Option<u64>,
         witness: u32,
     ) -> VerifierZeta<E>
-        ensures answer { result ≡ verifier_zeta self.shape (verifier_answer steps (over modulus E.Field.ops dim basis) self.shape quotient random witness sponge.old) }
-        ensures left { sponge.new ≡ verifier_left steps (over modulus E.Field.ops dim basis) self.shape quotient random witness sponge.old }
+        ensures answer { result ≡ verifier_zeta self.shape (verifier_answer S.steps (over F.modulus E.Field.ops E.dim E.basis) self.shape quotient random witness sponge.old) }
+        ensures left { sponge.new ≡ verifier_left S.steps (over F.modulus E.Field.ops E.dim E.basis) self.shape quotient random witness sponge.old }
     {
         let VerifierMid { shape } = self;
         match verifier_ood_phase::<S, F, E>(shape, sponge, quotient, random, witness) {

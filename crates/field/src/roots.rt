@@ -34,8 +34,8 @@ pub trait TwoAdic: PrimeField {
 
 // The root of unity of order 2^k, which is the generator's power odd * 2^(bits - k); nothing where k passes the greatest.
 pub fn root_of_unity<F: TwoAdic>(k: u32) -> Option<F>
-    ensures value { result ≡ root_within F.Field.ops generated odd bits k }
-    ensures order { k ≤ bits → HasOrder F.Field.ops (root F.Field.ops generated odd bits k) (2 ^ k) }
+    ensures value { result ≡ root_within F.Field.ops F.generated F.odd F.bits k }
+    ensures order { k ≤ F.bits → HasOrder F.Field.ops (root F.Field.ops F.generated F.odd F.bits k) (2 ^ k) }
 {
     if k > F::greatest_bits() {
         return None;

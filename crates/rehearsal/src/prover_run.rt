@@ -34,7 +34,7 @@ fn constraint_request<S: Sponge, F: PrimeField, E: Extension<F>>(
     preprocessed: Option<u64>,
     public_values: &[F],
 ) -> ProverRun<E>
-    ensures { Goes prover_seen steps (over modulus E.Field.ops dim basis) prover (constraint (first trace preprocessed (map numbered public_values.now))) run sponge.old result sponge.new }
+    ensures { Goes prover_seen S.steps (over F.modulus E.Field.ops E.dim E.basis) prover (constraint (first trace preprocessed (map F.numbered public_values.now))) run sponge.old result sponge.new }
 {
     match run {
         ProverRun::Start(end) => match end.constraint_phase::<S, F, E>(
@@ -58,7 +58,7 @@ fn ood_request<S: Sponge, F: PrimeField, E: Extension<F>>(
     random: Option<u64>,
     last: u32,
 ) -> ProverRun<E>
-    ensures { Goes prover_seen steps (over modulus E.Field.ops dim basis) prover (out_of_domain quotient random last) run sponge.old result sponge.new }
+    ensures { Goes prover_seen S.steps (over F.modulus E.Field.ops E.dim E.basis) prover (out_of_domain quotient random last) run sponge.old result sponge.new }
 {
     match run {
         ProverRun::Mid(end, alpha) => match end.ood_phase::<S, F, E>(
@@ -122,7 +122,7 @@ fn one_request<S: Sponge, F: PrimeField, E: Extension<F>>(
     request: Request,
     values: &[F],
 ) -> ProverRun<E>
-    ensures { Goes prover_seen steps (over modulus E.Field.ops dim basis) prover (meant numbered values.now request) run sponge.old result sponge.new }
+    ensures { Goes prover_seen S.steps (over F.modulus E.Field.ops E.dim E.basis) prover (meant F.numbered values.now request) run sponge.old result sponge.new }
 {
     match request {
         Request::Constraint {

@@ -30,7 +30,7 @@ pub fn rehearse<S: Sponge, F: PrimeField, E: Extension<F>>(
     replied: &[Request],
     values: &[F],
 ) -> Rehearsal<E>
-    ensures { Rehearsed steps (over modulus E.Field.ops dim basis) shape prover_sponge.old verifier_sponge.old (map (meant numbered values.now) asked.now) (map (meant numbered values.now) replied.now) result prover_sponge.new verifier_sponge.new }
+    ensures { Rehearsed S.steps (over F.modulus E.Field.ops E.dim E.basis) shape prover_sponge.old verifier_sponge.old (map (meant F.numbered values.now) asked.now) (map (meant F.numbered values.now) replied.now) result prover_sponge.new verifier_sponge.new }
 {
     let prover = drive_prover::<S, F, E>(prover_sponge, shape, asked, values);
     let verifier = drive_verifier::<S, F, E>(verifier_sponge, shape, replied, values);

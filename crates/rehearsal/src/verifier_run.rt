@@ -35,7 +35,7 @@ fn constraint_request<S: Sponge, F: PrimeField, E: Extension<F>>(
     preprocessed: Option<u64>,
     public_values: &[F],
 ) -> VerifierRun<E>
-    ensures { Goes verifier_seen steps (over modulus E.Field.ops dim basis) verifier (constraint (first trace preprocessed (map numbered public_values.now))) run sponge.old result sponge.new }
+    ensures { Goes verifier_seen S.steps (over F.modulus E.Field.ops E.dim E.basis) verifier (constraint (first trace preprocessed (map F.numbered public_values.now))) run sponge.old result sponge.new }
 {
     match run {
         VerifierRun::Start(end) => match end.constraint_phase::<S, F, E>(
@@ -59,7 +59,7 @@ fn ood_request<S: Sponge, F: PrimeField, E: Extension<F>>(
     random: Option<u64>,
     last: u32,
 ) -> VerifierRun<E>
-    ensures { Goes verifier_seen steps (over modulus E.Field.ops dim basis) verifier (out_of_domain quotient random last) run sponge.old result sponge.new }
+    ensures { Goes verifier_seen S.steps (over F.modulus E.Field.ops E.dim E.basis) verifier (out_of_domain quotient random last) run sponge.old result sponge.new }
 {
     match run {
         VerifierRun::Mid(end, alpha) => match end.ood_phase::<S, F, E>(
@@ -118,7 +118,7 @@ fn one_request<S: Sponge, F: PrimeField, E: Extension<F>>(
     request: Request,
     values: &[F],
 ) -> VerifierRun<E>
-    ensures { Goes verifier_seen steps (over modulus E.Field.ops dim basis) verifier (meant numbered values.now request) run sponge.old result sponge.new }
+    ensures { Goes verifier_seen S.steps (over F.modulus E.Field.ops E.dim E.basis) verifier (meant F.numbered values.now request) run sponge.old result sponge.new }
 {
     match request {
         Request::Constraint {

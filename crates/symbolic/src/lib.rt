@@ -142,7 +142,7 @@ impl AirBuilder<Degree> for DegreeCounter {
 
 // The largest degree of the AIR's constraints, where the transition selector has the one given.
 pub fn constraint_degree<F: Field, A: Air<F>>(air: &A, transition: u32) -> u32
-    ensures { result ≡ largest_degree transition 0 (constraints air.now) }
+    ensures { result ≡ largest_degree transition 0 (A.constraints air.now) }
 {
     let rows = DegreeRows { transition };
     let mut counter = DegreeCounter {
@@ -168,7 +168,7 @@ pub fn log2_ceil(n: u64) -> usize
 
 // With d the larger of the counted and the declared degree: max(d + zk, 2) - 1.
 fn chunks_needed<F: Field, A: Air<F>>(air: &A, transition: u32, is_zk: bool) -> u64
-    ensures value { result ≡ chunks_needed (declared air.now) transition is_zk (constraints air.now) }
+    ensures value { result ≡ chunks_needed (A.declared air.now) transition is_zk (A.constraints air.now) }
 {
     let declared = match air.layout().max_constraint_degree {
         Some(degree) => degree,
@@ -185,8 +185,8 @@ pub fn get_log_num_quotient_chunks<F: Field, A: Air<F>>(
     transition: u32,
     is_zk: bool,
 ) -> usize
-    ensures value { result ≡ log_chunks (declared air.now) transition is_zk (constraints air.now) }
-    ensures least { RoundedUp (chunks_needed (declared air.now) transition is_zk (constraints air.now)) result }
+    ensures value { result ≡ log_chunks (A.declared air.now) transition is_zk (A.constraints air.now) }
+    ensures least { RoundedUp (chunks_needed (A.declared air.now) transition is_zk (A.constraints air.now)) result }
 {
     log2_ceil(chunks_needed(air, transition, is_zk))
 }

@@ -7,8 +7,8 @@ use field::traits::{Field, PrimeField};
 use sponge::Sponge;
 
 pub fn draw_challenge<S: Sponge, F: PrimeField, E: Extension<F>>(sponge: &mut S) -> E
-    ensures value { result ≡ challenge steps (over modulus E.Field.ops dim basis) sponge.old }
-    ensures left { sponge.new ≡ drawn steps (over modulus E.Field.ops dim basis) sponge.old }
+    ensures value { result ≡ challenge S.steps (over F.modulus E.Field.ops E.dim E.basis) sponge.old }
+    ensures left { sponge.new ≡ drawn S.steps (over F.modulus E.Field.ops E.dim E.basis) sponge.old }
 {
     let mut value = E::zero();
     for k in 0..E::dimension() {

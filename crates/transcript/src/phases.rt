@@ -40,7 +40,7 @@ fn take_optional<S: Sponge>(
     unexpected: StarkTranscriptFailure,
 ) -> Option<StarkTranscriptFailure>
     ensures fault { result ≡ misplaced described commitment missing unexpected }
-    ensures left { sponge.new ≡ commit_if steps described commitment sponge.old }
+    ensures left { sponge.new ≡ commit_if S.steps described commitment sponge.old }
 {
     match (described, commitment) {
         (true, Some(commitment)) => {
@@ -54,7 +54,7 @@ fn take_optional<S: Sponge>(
 }
 
 fn is_counted<F: PrimeField>(public_values: &[F], count: usize) -> bool
-    ensures { result ≡ (length (map numbered public_values.now) == count) }
+    ensures { result ≡ (length (map F.numbered public_values.now) == count) }
 {
     public_values.len() == count
 }
@@ -66,8 +66,8 @@ pub fn constraint_phase<S: Sponge, F: PrimeField, E: Extension<F>>(
     preprocessed: Option<u64>,
     public_values: &[F],
 ) -> ConstraintOutcome<E>
-    ensures answer { result ≡ constraint_answer steps (over modulus E.Field.ops dim basis) shape (first trace preprocessed (map numbered public_values.now)) sponge.old }
-    ensures left { sponge.new ≡ constraint_left steps (over modulus E.Field.ops dim basis) shape (first trace preprocessed (map numbered public_values.now)) sponge.old }
+    ensures answer { result ≡ constraint_answer S.steps (over F.modulus E.Field.ops E.dim E.basis) shape (first trace preprocessed (map F.numbered public_values.now)) sponge.old }
+    ensures left { sponge.new ≡ constraint_left S.steps (over F.modulus E.Field.ops E.dim E.basis) shape (first trace preprocessed (map F.numbered public_values.now)) sponge.old }
 {
     if !is_counted(public_values, shape.num_public_values) {
         return ConstraintOutcome::Refused(StarkTranscriptFailure::PublicCount);
@@ -85,7 +85,7 @@ pub fn constraint_phase<S: Sponge, F: PrimeField, E: Extension<F>>(
 
 // The least witness below the limit that passes.
 fn least_witness<S: Sponge>(sponge: &S, bits: usize, limit: u32) -> Option<u32>
-    ensures least { result ≡ least (λ w. passing steps sponge.now w bits) limit }
+    ensures least { result ≡ least (λ w. passing S.steps sponge.now w bits) limit }
     ensures below { Under result limit }
 {
     for w in 0..limit {
@@ -98,8 +98,8 @@ fn least_witness<S: Sponge>(sponge: &S, bits: usize, limit: u32) -> Option<u32>
 
 // The check of a witness, which takes it and lets a word be given.
 fn check_witness<S: Sponge>(sponge: &mut S, witness: u32, bits: usize) -> bool
-    ensures passed { result ≡ passing steps sponge.old witness bits }
-    ensures left { sponge.new ≡ checked steps sponge.old witness }
+    ensures passed { result ≡ passing S.steps sponge.old witness bits }
+    ensures left { sponge.new ≡ checked S.steps sponge.old witness }
 {
     let passed = sponge.passes(witness, bits);
     sponge.take(witness);
@@ -109,9 +109,9 @@ fn check_witness<S: Sponge>(sponge: &mut S, witness: u32, bits: usize) -> bool
 
 // A prover's step 7.
 fn grind<S: Sponge>(sponge: &mut S, bits: usize, limit: u32) -> Option<u32>
-    ensures witness { result ≡ found steps bits sponge.old limit }
+    ensures witness { result ≡ found S.steps bits sponge.old limit }
     ensures below { Under result 4294967295 }
-    ensures left { sponge.new ≡ found_sponge steps bits sponge.old result }
+    ensures left { sponge.new ≡ found_sponge S.steps bits sponge.old result }
 {
     if bits == 0 {
         return Some(0);
@@ -127,8 +127,8 @@ fn grind<S: Sponge>(sponge: &mut S, bits: usize, limit: u32) -> Option<u32>
 
 // A verifier's step 7.
 fn is_ground<S: Sponge>(sponge: &mut S, bits: usize, witness: u32) -> bool
-    ensures passed { result ≡ accepted steps bits sponge.old witness }
-    ensures left { sponge.new ≡ ground steps bits sponge.old witness }
+    ensures passed { result ≡ accepted S.steps bits sponge.old witness }
+    ensures left { sponge.new ≡ ground S.steps bits sponge.old witness }
 {
     if bits == 0 {
         return true;
@@ -144,7 +144,7 @@ fn take_quotient<S: Sponge>(
     random: Option<u64>,
 ) -> Option<StarkTranscriptFailure>
     ensures fault { result ≡ random_fault shape random }
-    ensures left { sponge.new ≡ committed steps shape quotient random sponge.old }
+    ensures left { sponge.new ≡ committed S.steps shape quotient random sponge.old }
 {
     take_commitment(sponge, quotient);
     take_optional(
@@ -163,8 +163,8 @@ pub fn prover_ood_phase<S: Sponge, F: PrimeField, E: Extension<F>>(
     random: Option<u64>,
     budget: u32,
 ) -> Result<OodDraw<E>, StarkTranscriptFailure>
-    ensures answer { result ≡ prover_answer steps (over modulus E.Field.ops dim basis) shape quotient random budget sponge.old }
-    ensures left { sponge.new ≡ prover_left steps (over modulus E.Field.ops dim basis) shape quotient random budget sponge.old }
+    ensures answer { result ≡ prover_answer S.steps (over F.modulus E.Field.ops E.dim E.basis) shape quotient random budget sponge.old }
+    ensures left { sponge.new ≡ prover_left S.steps (over F.modulus E.Field.ops E.dim E.basis) shape quotient random budget sponge.old }
 {
     if let Some(failure) = take_quotient(shape, sponge, quotient, random) {
         return Err(failure);
@@ -191,8 +191,8 @@ pub fn verifier_ood_phase<S: Sponge, F: PrimeField, E: Extension<F>>(
     random: Option<u64>,
     witness: u32,
 ) -> Result<E, StarkTranscriptFailure>
-    ensures answer { result ≡ verifier_answer steps (over modulus E.Field.ops dim basis) shape quotient random witness sponge.old }
-    ensures left { sponge.new ≡ verifier_left steps (over modulus E.Field.ops dim basis) shape quotient random witness sponge.old }
+    ensures answer { result ≡ verifier_answer S.steps (over F.modulus E.Field.ops E.dim E.basis) shape quotient random witness sponge.old }
+    ensures left { sponge.new ≡ verifier_left S.steps (over F.modulus E.Field.ops E.dim E.basis) shape quotient random witness sponge.old }
 {
     if let Some(failure) = take_quotient(shape, sponge, quotient, random) {
         return Err(failure);

@@ -9,7 +9,7 @@ use sponge::Sponge;
 
 // One step of the description, where the shape has it: its code and its length.
 fn take_step<S: Sponge>(sponge: &mut S, there: bool, code: u8, length: u64)
-    ensures { sponge.new ≡ takes steps (part there code length) sponge.old }
+    ensures { sponge.new ≡ takes S.steps (part there code length) sponge.old }
 {
     if there {
         sponge.take(u32::from(code));
@@ -18,7 +18,7 @@ fn take_step<S: Sponge>(sponge: &mut S, there: bool, code: u8, length: u64)
 }
 
 fn take_steps<S: Sponge>(sponge: &mut S, shape: &StarkShape)
-    ensures { sponge.new ≡ takes steps (counted_steps shape.now) sponge.old }
+    ensures { sponge.new ≡ takes S.steps (counted_steps shape.now) sponge.old }
 {
     let preprocessed = shape.preprocessed_width > 0;
     let random = shape.has_randomization;
@@ -40,7 +40,7 @@ fn take_steps<S: Sponge>(sponge: &mut S, shape: &StarkShape)
 }
 
 fn take_instance<S: Sponge>(sponge: &mut S, shape: &StarkShape)
-    ensures { sponge.new ≡ takes steps (number_bytes (instance shape.now)) sponge.old }
+    ensures { sponge.new ≡ takes S.steps (number_bytes (instance shape.now)) sponge.old }
 {
     take_number(sponge, shape.log_ext_degree as u64);
     take_number(sponge, shape.log_degree as u64);
@@ -53,7 +53,7 @@ fn take_instance<S: Sponge>(sponge: &mut S, shape: &StarkShape)
 }
 
 pub fn take_seed<S: Sponge>(sponge: &mut S, shape: &StarkShape)
-    ensures { sponge.new ≡ takes steps (seed shape.now) sponge.old }
+    ensures { sponge.new ≡ takes S.steps (seed shape.now) sponge.old }
 {
     sponge.take(1);
     take_number(sponge, 12);

@@ -60,7 +60,7 @@ fn cells_below<F>(rows: &[StationRow<F>], row: usize) -> Option<&[F]>
 }
 
 fn flag<F: Field>(test: bool) -> F
-    ensures { result ≡ one_if ops test }
+    ensures { result ≡ one_if F.ops test }
 {
     if test { F::one() } else { F::zero() }
 }
@@ -74,7 +74,7 @@ fn station_rows<'a, F: Field>(
     is_last: bool,
 ) -> OpenedRows<'a, F, F>
     ensures covered { length main.now ≡ 9 → next_covers 9 main_next.entry ≡ true → length public_values.now ≡ 2 → covers station_layout result ≡ true }
-    ensures reads { ReadsStation ops result main.now (cells main_next.entry) public_values.now is_first is_last }
+    ensures reads { ReadsStation F.ops result main.now (cells main_next.entry) public_values.now is_first is_last }
 {
     OpenedRows {
         main,
@@ -103,7 +103,7 @@ pub fn constraint_in_row<'a, F: Field>(
     row: usize,
     constraint: usize,
 ) -> Option<F>
-    ensures { result ≡ value_in ops rows.now ends.now row constraint }
+    ensures { result ≡ value_in F.ops rows.now ends.now row constraint }
 {
     if row >= rows.len() {
         return None;
@@ -128,7 +128,7 @@ pub fn vanishes_in_row<'a, F: Field>(
     row: usize,
     constraint: usize,
 ) -> bool
-    ensures { Decides result (ZeroIn ops rows.now ends.now row constraint) }
+    ensures { Decides result (ZeroIn F.ops rows.now ends.now row constraint) }
 {
     match constraint_in_row(rows, ends, row, constraint) {
         Some(value) => value.equals(F::zero()),
@@ -143,7 +143,7 @@ pub fn failing_constraint<'a, F: Field>(
     row: usize,
     from: usize,
 ) -> Option<usize>
-    ensures { FirstFailing (ZeroIn ops rows.now ends.now row) from 11 result }
+    ensures { FirstFailing (ZeroIn F.ops rows.now ends.now row) from 11 result }
 {
     for constraint in from..11 {
         if !vanishes_in_row(rows, ends, row, constraint) {
@@ -161,7 +161,7 @@ pub struct Failure {
 impl Copy for Failure {}
 
 fn search_rows<'a, F: Field>(rows: &'a [StationRow<F>], ends: &'a WalkEnds<F>) -> Option<Failure>
-    ensures { Found ops rows.now ends.now result }
+    ensures { Found F.ops rows.now ends.now result }
 {
     for row in 0..rows.len() {
         if let Some(constraint) = failing_constraint(rows, ends, row, 0) {
@@ -177,9 +177,9 @@ pub fn first_failure<'a, F: PrimeField>(
     ends: &'a WalkEnds<F>,
 ) -> Option<Failure>
     ensures found { Found F.Field.ops rows.now ends.now result }
-    ensures walk { Decides (none result) (WalkIn F.Field.ops rows.now ends.now numbered) }
-    ensures apart { none result ≡ true → 256 * (length rows.now - 1) < modulus → Apart F.Field.ops (table_of rows.now) }
-    ensures law { StationLaw F.Field.ops modulus numbered }
+    ensures walk { Decides (none result) (WalkIn F.Field.ops rows.now ends.now F.numbered) }
+    ensures apart { none result ≡ true → 256 * (length rows.now - 1) < F.modulus → Apart F.Field.ops (table_of rows.now) }
+    ensures law { StationLaw F.Field.ops F.modulus F.numbered }
 {
     search_rows(rows, ends)
 }

@@ -17,7 +17,7 @@ use field::traits::Field;
 
 // 1 + t + .. + t^(2^k - 1), which is the product of 1 + t^(2^l) over l below k.
 fn geometric<E: Field>(t: E, k: u32) -> E
-    ensures { result ≡ geometric_sum ops t (2 ^ k) }
+    ensures { result ≡ geometric_sum E.ops t (2 ^ k) }
 {
     let mut value = E::one();
     let mut power = t;

@@ -5,10 +5,10 @@ use Rattle.walk.proofs.cells_at.Goals as goal
 pub returns-then-row-rows : goal.returns-then-row-rows
 returns-then-row-rows g c = record {
   same =
-      c.cells-of.ensures.same
+      c.cells_of.ensures.same
       ∙ ap (λ r. r.cells) c.index-rows-row.is
       ∙ sym (get_or-map (λ r. r.cells) c.args.rows.now c.args.row c.index-rows-row.result [] c.if-row-rows.true);
-  nine = λ _. c.cells-of.ensures.nine;
+  nine = λ _. c.cells_of.ensures.nine;
 }
 
 pub returns-else-row-rows : goal.returns-else-row-rows

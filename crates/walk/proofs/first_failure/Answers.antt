@@ -8,8 +8,8 @@ returns g c =
     let numbers = g.met.F.PrimeField.numbers in
     let rows = c.args.rows.now in
     let ends = c.args.ends.now in record {
-      found = c.search-rows.ensures;
-      walk = decides laws numbers rows ends c.search-rows.result c.search-rows.ensures;
-      apart = apart laws numbers rows ends c.search-rows.result c.search-rows.ensures;
+      found = c.search_rows.ensures;
+      walk = decides laws numbers rows ends c.search_rows.result c.search_rows.ensures;
+      apart = apart laws numbers rows ends c.search_rows.result c.search_rows.ensures;
       law = station_law laws numbers;
     }

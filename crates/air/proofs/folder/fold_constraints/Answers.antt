@@ -7,5 +7,5 @@ pub returns : goal.returns
 returns g c =
     let read = opened g.E.Field.ops g.E.Extension.embedded c.args.rows.now in record {
       value = grind (arith, folder_holds g.E.Field.ops read c.args.alpha c.zero.result (g.A.Air.constraints c.args.air.now));
-      declared = c.declared-suffices.ensures;
+      declared = c.declared_suffices.ensures;
     }

@@ -10,11 +10,11 @@ loop-b-preserved c =
     c.loop-b.invariant ∙ blank_step bs c.loop-b.b-index _ c.loop-b-test.true c.is_blank.ensures
     ∙ ap (λ t. cond t (all_blank (drop (c.loop-b.b-index + 1) bs)) false) c.if-not-is_blank.false
 
-pub returns-then-not-is-blank : goal.returns-then-not-is-blank
-returns-then-not-is-blank c =
+pub returns-then-not-is_blank : goal.returns-then-not-is_blank
+returns-then-not-is_blank c =
     let bs = c.args.line.now in
-    sym (c.loop-b.invariant ∙ blank_step bs c.loop-b.b-index _ c.loop-b-test.true c.is-blank.ensures
-    ∙ ap (λ t. cond t (all_blank (drop (c.loop-b.b-index + 1) bs)) false) c.if-not-is-blank.true)
+    sym (c.loop-b.invariant ∙ blank_step bs c.loop-b.b-index _ c.loop-b-test.true c.is_blank.ensures
+    ∙ ap (λ t. cond t (all_blank (drop (c.loop-b.b-index + 1) bs)) false) c.if-not-is_blank.true)
 
 pub returns : goal.returns
 returns c = sym (c.loop-b.invariant ∙ at_drop_all all_blank c.args.line.now c.loop-b.b-index c.loop-b-test.false)

@@ -8,9 +8,9 @@ loop-end-preserved c =
     let inner = c.is_newline.ensures ∙ ap not c.if-is_newline.false in
     omega (arith, c.loop-end.invariant, prefix_len-drop_yes inside c.args.text.now c.loop-end.end 0 c.loop-end-test.true inner)
 
-pub returns-then-is-newline : goal.returns-then-is-newline
-returns-then-is-newline c =
-    let newline = c.is-newline.ensures ∙ ap not c.if-is-newline.true in
+pub returns-then-is_newline : goal.returns-then-is_newline
+returns-then-is_newline c =
+    let newline = c.is_newline.ensures ∙ ap not c.if-is_newline.true in
     omega (arith, c.loop-end.invariant, prefix_len-drop_no inside c.args.text.now c.loop-end.end 0 c.loop-end-test.true newline)
 
 pub returns : goal.returns

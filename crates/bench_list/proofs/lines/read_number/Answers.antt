@@ -15,14 +15,14 @@ loop-b-preserved c =
           ∙ ap (λ t. cond t (decimal_after (n * 10 + (get_or bs i 0 - 48)) (drop (i + 1) bs)) None) c.if-not-is_digit.false),
     )
 
-pub returns-then-not-is-digit : goal.returns-then-not-is-digit
-returns-then-not-is-digit c =
+pub returns-then-not-is_digit : goal.returns-then-not-is_digit
+returns-then-not-is_digit c =
     let bs = c.args.digits.now in
     let i = c.loop-b.b-index in
     let n = c.loop-b.value in
     sym (c.loop-b.invariant.1
-    ∙ ap small (digit_step n bs i _ c.loop-b-test.true c.is-digit.ensures
-    ∙ ap (λ t. cond t (decimal_after (n * 10 + (get_or bs i 0 - 48)) (drop (i + 1) bs)) None) c.if-not-is-digit.true))
+    ∙ ap small (digit_step n bs i _ c.loop-b-test.true c.is_digit.ensures
+    ∙ ap (λ t. cond t (decimal_after (n * 10 + (get_or bs i 0 - 48)) (drop (i + 1) bs)) None) c.if-not-is_digit.true))
 
 pub returns-then-value-gt4294967295 : goal.returns-then-value-gt4294967295
 returns-then-value-gt4294967295 c =

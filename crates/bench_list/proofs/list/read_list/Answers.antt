@@ -5,18 +5,18 @@ use Rattle.bench_list.specs.Reading.{Read, reading}
 use Rattle.bench_list.proofs.ReadSteps.{Going, Next, end_within, more_lines, last_line, some_lines, line_taken, done}
 use Rattle.bench_list.proofs.list.read_list.Goals as goal
 
-pub slice-bounds-take-line-end : goal.slice-bounds-take-line-end
-slice-bounds-take-line-end c =
-    omega (arith, end_within c.args.text.now c.lines.at c.line-end-end.result c.lines.invariant.0 c.line-end-end.ensures)
+pub slice_bounds-take_line-end : goal.slice_bounds-take_line-end
+slice_bounds-take_line-end c =
+    omega (arith, end_within c.args.text.now c.lines.at c.line_end-end.result c.lines.invariant.0 c.line_end-end.ensures)
 
-pub take-line-requires : goal.take-line-requires
-take-line-requires c = omega (arith, c.lines.invariant.2.few, c.lines.invariant.2.long)
+pub take_line-requires : goal.take_line-requires
+take_line-requires c = omega (arith, c.lines.invariant.2.few, c.lines.invariant.2.long)
 
-pub returns-in-err-count : goal.returns-in-err-count
-returns-in-err-count c =
-    let p = err_from_is_err_and c.from-residual.result c.from-residual.ensures.1 in
-    let lines = some_lines c.args.text.now c.lines.at c.line-end-end.result c.lines.invariant.0 c.line-end-end.ensures in
-    rw (p.1, p.2) (record { read = line_taken _ _ _ _ _ _ lines.0 _ _ _ lines.1 c.lines.invariant.2 c.in-err-count.ensures; within = tt })
+pub returns-in_err-count : goal.returns-in_err-count
+returns-in_err-count c =
+    let p = err_from_is_err_and c.from_residual.result c.from_residual.ensures.1 in
+    let lines = some_lines c.args.text.now c.lines.at c.line_end-end.result c.lines.invariant.0 c.line_end-end.ensures in
+    rw (p.1, p.2) (record { read = line_taken _ _ _ _ _ _ lines.0 _ _ _ lines.1 c.lines.invariant.2 c.in_err-count.ensures; within = tt })
 
 pub returns-then-end-text : goal.returns-then-end-text
 returns-then-end-text c =

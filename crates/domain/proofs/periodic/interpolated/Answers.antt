@@ -23,8 +23,8 @@ loop-i-preserved g c =
     let at = c.embed-at.ensures ∙ ap e c.point.ensures in
     let read = c.place.ensures.is in
     let sample = c.embed-sample.ensures ∙ ap e (c.index-column-place.is ∙ get_d_any column c.place.result c.index-column-place.result none c.place.ensures.below ∙ ap (λ k. get_or column k none) read) in
-    let before = c.ratios-before.ensures ∙ ap (λ x. basis o inv x (earlier none e points (j - 1)) z) at in
-    let after = c.ratios-from.ensures ∙ ap₂ (λ x k. basis o inv x (later none e points k (n - k)) z) at next in
+    let before = c.ratios_before.ensures ∙ ap (λ x. basis o inv x (earlier none e points (j - 1)) z) at in
+    let after = c.ratios_from.ensures ∙ ap₂ (λ x k. basis o inv x (later none e points k (n - k)) z) at next in
     let weight = c.mul-weight.ensures ∙ ap₂ o.mul before after in (
       omega arith,
       c.add-value.ensures

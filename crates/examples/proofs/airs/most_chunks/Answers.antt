@@ -3,4 +3,4 @@ use Rattle.examples.proofs.airs.most_chunks.Goals as goal
 
 pub returns : goal.returns
 unfolding count_leading_zeros
-returns c = c.get-log-num-quotient-chunks.ensures.value
+returns c = c.get_log_num_quotient_chunks.ensures.value

@@ -9,4 +9,4 @@ same_values true a b y e = cc
 same_values false a b y e = cc
 
 pub returns-in-Ok : goal.returns-in-Ok
-returns-in-Ok c = c.number.ensures ∙ same_values _ _ _ _ c.in-Ok.ensures.value ∙ folds_to_four _ c.from-u32.ensures
+returns-in-Ok c = c.number.ensures ∙ same_values _ _ _ _ c.in-Ok.ensures.value ∙ folds_to_four _ c.from_u32.ensures

@@ -10,7 +10,7 @@ use Rattle.field.proofs.roots.root_of_unity.Goals as goal
 pub loop-init : goal.loop-init
 loop-init g c =
     let f = g.F.TwoAdic in
-    c.top-root-root.ensures
+    c.top_root-root.ensures
     ∙ ap (pow g.F.Field.ops f.generated) (sym (mul-one f.odd) ∙ ap (λ m. f.odd * 2 ^ m) (sym (sub_self c.args.k)))
 
 pub loop-preserved : goal.loop-preserved
@@ -27,8 +27,8 @@ pub returns : goal.returns
 returns g c =
     let f = g.F.TwoAdic in
     let k = c.args.k in
-    let within : k ≤ f.bits = omega (arith, c.greatest-bits.ensures) in
-    let all : c.loop.counter - k ≡ f.bits - k = omega (arith, c.greatest-bits-end.ensures) in
+    let within : k ≤ f.bits = omega (arith, c.greatest_bits.ensures) in
+    let all : c.loop.counter - k ≡ f.bits - k = omega (arith, c.greatest_bits-end.ensures) in
     let is_root = c.loop.invariant ∙ ap (λ m. pow g.F.Field.ops f.generated (f.odd * 2 ^ m)) all in
     record {
       value = ap Some is_root ∙ sym (ap (λ b. when b (root g.F.Field.ops f.generated f.odd f.bits k)) (le-leb k f.bits within));

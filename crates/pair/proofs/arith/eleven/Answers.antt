@@ -3,4 +3,4 @@ use Rattle.residue.specs.Moduli.{residues_nat}
 use Rattle.pair.proofs.arith.eleven.Goals as goal
 
 pub returns : goal.returns
-returns c = c.from-u32.ensures ∙ residues_nat 11
+returns c = c.from_u32.ensures ∙ residues_nat 11

@@ -20,7 +20,7 @@ loop-j-preserved g c =
     let other = c.embed-other.ensures ∙ ap e c.term-in-loop-j.ensures in
     let factor =
     c.mul.ensures
-    ∙ ap₂ o.mul (c.inverse-or-zero.ensures ∙ ap inv (c.sub.ensures ∙ ap (sub o at) other)) (c.sub-in-loop-j.ensures ∙ ap (sub o z) other) in
+    ∙ ap₂ o.mul (c.inverse_or_zero.ensures ∙ ap inv (c.sub.ensures ∙ ap (sub o at) other)) (c.sub-in-loop-j.ensures ∙ ap (sub o z) other) in
     ap (λ x. o.mul x left) (c.mul-value.ensures ∙ ap (o.mul v) factor)
     ∙ g.E.Field.laws.ring.mul_assoc v _ left
     ∙ ap (o.mul v) (sym (basis_next f o e c.args.start c.args.step z c.args.i j c.args.n c.loop-j-test.true inv at))

@@ -14,7 +14,7 @@ loop-request-init g c = (omega arith, λ sh e p q. (p, q))
 pub loop-request-preserved : goal.loop-request-preserved
 loop-request-preserved g c =
     let dr = over g.F.PrimeField.modulus g.E.Field.ops g.E.Extension.dim g.E.Extension.basis in
-    (omega arith, went_on prover_seen g.S.Sponge.steps dr prover (meant g.F.PrimeField.numbered c.args.values.now) c.args.requests.now c.loop-request.request-index (Constraint 0 None 0 0) (Start c.new.result) c.new.new.sponge c.loop-request.run c.loop-request.sponge c.one-request-run.result c.one-request-run.new.sponge c.loop-request-test.true c.loop-request.invariant.1 c.one-request-run.ensures)
+    (omega arith, went_on prover_seen g.S.Sponge.steps dr prover (meant g.F.PrimeField.numbered c.args.values.now) c.args.requests.now c.loop-request.request-index (Constraint 0 None 0 0) (Start c.new.result) c.new.new.sponge c.loop-request.run c.loop-request.sponge c.one_request-run.result c.one_request-run.new.sponge c.loop-request-test.true c.loop-request.invariant.1 c.one_request-run.ensures)
 
 pub returns : goal.returns
 returns g c =

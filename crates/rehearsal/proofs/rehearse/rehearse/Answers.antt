@@ -16,9 +16,9 @@ returns g c =
     let ps = map f c.args.asked.now in
     let vs = map f c.args.replied.now in
     record {
-      proving = c.drive-prover-prover.ensures.run;
-      checking = c.drive-verifier-verifier.ensures.run;
-      proved = c.drive-prover-prover.ensures.left;
-      checked = c.drive-verifier-verifier.ensures.left;
+      proving = c.drive_prover-prover.ensures.run;
+      checking = c.drive_verifier-verifier.ensures.run;
+      proved = c.drive_prover-prover.ensures.left;
+      checked = c.drive_verifier-verifier.ensures.left;
       agree = λ e. subst (λ t. Agree st dr sh s (run st dr sh prover s ps) (run st dr sh verifier t vs)) e (ends_agree st dr sh s ps vs);
     }

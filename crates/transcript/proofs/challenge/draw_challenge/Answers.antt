@@ -4,8 +4,8 @@ use Rattle.transcript.specs.Takes.{after, words, over}
 use Rattle.transcript.proofs.Drawing.{one_more}
 use Rattle.transcript.proofs.challenge.draw_challenge.Goals as goal
 
-pub nonzero-rem-word : goal.nonzero-rem-word
-nonzero-rem-word g c =
+pub nonzero_rem-word : goal.nonzero_rem-word
+nonzero_rem-word g c =
     let some = g.met.F.PrimeField.numbers.below g.F.Field.ops.zero in
     let order = c.order.ensures in
     omega arith
@@ -17,12 +17,12 @@ loop-k-preserved g c =
     let s = c.args.sponge.now in
     let k = c.loop-k.k in
     let p = g.F.PrimeField.modulus in
-    let word : c.from-u32.result ≡ nat o (st.word (after st k s) % p) =
-    c.from-u32.ensures ∙ ap₂ (λ w q. nat o (w % q)) (c.give.ensures.word ∙ ap st.word c.loop-k.invariant.1) c.order.ensures in
+    let word : c.from_u32.result ≡ nat o (st.word (after st k s) % p) =
+    c.from_u32.ensures ∙ ap₂ (λ w q. nat o (w % q)) (c.give.ensures.word ∙ ap st.word c.loop-k.invariant.1) c.order.ensures in
     let size = c.dimension-k-end.ensures in (
       omega arith,
       (c.give.ensures.left ∙ ap st.given c.loop-k.invariant.1 ∙ sym (ap (λ n. after st n s) (add-one k))),
-      (c.add-value.ensures ∙ ap₂ o.add c.loop-k.invariant.2 (c.mul.ensures ∙ ap₂ o.mul word c.basis-element.ensures) ∙ sym (one_more g.E.Field.laws.ring g.E.Extension.basis st p g.E.Extension.dim k s)),
+      (c.add-value.ensures ∙ ap₂ o.add c.loop-k.invariant.2 (c.mul.ensures ∙ ap₂ o.mul word c.basis_element.ensures) ∙ sym (one_more g.E.Field.laws.ring g.E.Extension.basis st p g.E.Extension.dim k s)),
     )
 
 pub returns : goal.returns

@@ -10,7 +10,7 @@ returns g c =
     let d = c.args.self in
     let adic = g.met.F.TwoAdic.adic in
     let few : bits_of t d < 64 = omega (arith, bits_within t g.F.Field.laws adic d, adic.few) in
-    ap (λ b. 1 * 2 ^ b % 18446744073709551616) c.log-size.ensures
+    ap (λ b. 1 * 2 ^ b % 18446744073709551616) c.log_size.ensures
     ∙ ap (λ n. n % 18446744073709551616) (one-mul (2 ^ bits_of t d))
     ∙ mod-eq_of_lt (pow-lt few)
     ∙ sym (coset_length t g.F.Field.laws adic d)

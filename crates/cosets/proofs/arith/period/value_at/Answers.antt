@@ -19,18 +19,18 @@ returns g c =
     let column = c.args.column.now in
     let adic = g.met.F.TwoAdic.adic in
     let inv = total f g.F.Field.inverted in
-    let bits_is = c.log-size-bits.ensures in
+    let bits_is = c.log_size-bits.ensures in
     let few : bits_of t d < 32 = omega (arith, bits_within t g.F.Field.laws adic d, adic.few) in
     let shifted : 1 * 2 ^ bits_of t d % 4294967296 ≡ 2 ^ bits_of t d =
     ap (λ n. n % 4294967296) (one-mul (2 ^ bits_of t d)) ∙ mod-eq_of_lt (pow-lt few) in
-    let size_is = c.from-u32-size.ensures ∙ ap (λ b. nat f (1 * 2 ^ b % 4294967296)) bits_is ∙ ap (nat f) shifted in
-    let share = c.embed.ensures ∙ ap e (c.inverse-or-zero.ensures ∙ ap inv size_is) in
+    let size_is = c.from_u32-size.ensures ∙ ap (λ b. nat f (1 * 2 ^ b % 4294967296)) bits_is ∙ ap (nat f) shifted in
+    let share = c.embed.ensures ∙ ap e (c.inverse_or_zero.ensures ∙ ap inv size_is) in
     let sum : g.row.F.Denot → g.row.F.Denot → ℕ → ℕ → g.row.E.Denot = λ i b n p. sums o n (λ j. o.mul (e (get_or column j f.zero)) (geometric o (o.mul w (e (f.mul i (pow f b j)))) p)) in
     let weighted_is =
     c.weighted.ensures
-    ∙ ap₂ (λ i b. sum i b (length column) (2 ^ c.log-size-bits.result))
-    (c.inverse-or-zero-inverse.ensures ∙ ap inv c.shift.ensures)
-    (c.inverse-or-zero-back.ensures ∙ ap inv c.step.ensures)
+    ∙ ap₂ (λ i b. sum i b (length column) (2 ^ c.log_size-bits.result))
+    (c.inverse_or_zero-inverse.ensures ∙ ap inv c.shift.ensures)
+    (c.inverse_or_zero-back.ensures ∙ ap inv c.step.ensures)
     ∙ ap₂ (sum (inv (shift_of t d)) (inv (step_of t d))) c.requires (ap (λ b. 2 ^ b) bits_is) in
     c.mul.ensures
     ∙ ap₂ o.mul weighted_is share

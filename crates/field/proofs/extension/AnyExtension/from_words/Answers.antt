@@ -6,7 +6,7 @@ use Rattle.field.proofs.extension.AnyExtension.from_words.Goals as goal
 pub returns : goal.returns
 returns g c =
     let f = g.F.Field in
-    ap Some c.from-u32.ensures ∙ one_word f.laws.ring _ refl (nat f.ops) c.args.words.now (omega arith)
+    ap Some c.from_u32.ensures ∙ one_word f.laws.ring _ refl (nat f.ops) c.args.words.now (omega arith)
 
 pub returns-then-words-ne1 : goal.returns-then-words-ne1
 returns-then-words-ne1 g c =

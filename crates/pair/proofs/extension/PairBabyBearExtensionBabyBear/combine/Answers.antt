@@ -5,5 +5,5 @@ use Rattle.pair.proofs.extension.PairBabyBearExtensionBabyBear.combine.Goals as 
 
 pub returns : goal.returns
 returns c =
-    ap Some c.plus-root.ensures
+    ap Some c.plus_root.ensures
     ∙ exactly_two pairs_laws.ring pairs_basis refl c.args.coefficients.now _ _ (search rules) c.x-item.is c.y-item.is

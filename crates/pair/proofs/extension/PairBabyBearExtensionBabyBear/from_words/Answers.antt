@@ -7,8 +7,8 @@ use Rattle.pair.proofs.extension.PairBabyBearExtensionBabyBear.from_words.Goals 
 pub returns : goal.returns
 returns c =
     ap Some
-    (c.plus-root.ensures
-    ∙ ap₂ (λ x y. pairs.add x (pairs.mul y (pairs_basis 1))) c.from-u32.ensures c.from-u32-2.ensures)
+    (c.plus_root.ensures
+    ∙ ap₂ (λ x y. pairs.add x (pairs.mul y (pairs_basis 1))) c.from_u32.ensures c.from_u32-2.ensures)
     ∙ two_words pairs_laws.ring pairs_basis refl (nat pairs) c.args.words.now (omega arith)
 
 pub returns-then-words-ne2 : goal.returns-then-words-ne2

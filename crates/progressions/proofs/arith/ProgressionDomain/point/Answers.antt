@@ -5,8 +5,8 @@ use Rattle.progressions.proofs.Terms.{term_at}
 use Rattle.domain.proofs.Sampled.{get_d_past}
 use Rattle.progressions.proofs.arith.ProgressionDomain.point.Goals as goal
 
-pub overflow-cast-i : goal.overflow-cast-i
-overflow-cast-i g c =
+pub overflow_cast-i : goal.overflow_cast-i
+overflow_cast-i g c =
     let t = numbers g.F.Field g.F.PrimeField in
     let d = c.args.self in
     let laws = g.F.Field.laws in

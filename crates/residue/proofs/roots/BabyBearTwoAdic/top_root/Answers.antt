@@ -5,4 +5,4 @@ use Rattle.residue.specs.Laws.TwoAdic.{thirty_one, power_value}
 use Rattle.residue.proofs.roots.BabyBearTwoAdic.top_root.Goals as goal
 
 pub returns : goal.returns
-returns c = c.from-u32.ensures ∙ residues_nat 440564289 ∙ sym (same_value _ _ (power_value 2013265921 babybear_prime thirty_one 15))
+returns c = c.from_u32.ensures ∙ residues_nat 440564289 ∙ sym (same_value _ _ (power_value 2013265921 babybear_prime thirty_one 15))

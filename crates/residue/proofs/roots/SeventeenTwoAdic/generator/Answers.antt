@@ -3,4 +3,4 @@ use Rattle.residue.specs.Moduli.{seventeens_nat}
 use Rattle.residue.proofs.roots.SeventeenTwoAdic.generator.Goals as goal
 
 pub returns : goal.returns
-returns c = c.from-u32.ensures ∙ seventeens_nat 3
+returns c = c.from_u32.ensures ∙ seventeens_nat 3

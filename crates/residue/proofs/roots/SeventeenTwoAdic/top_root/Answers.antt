@@ -5,4 +5,4 @@ use Rattle.residue.specs.Laws.TwoAdic.{three, power_value}
 use Rattle.residue.proofs.roots.SeventeenTwoAdic.top_root.Goals as goal
 
 pub returns : goal.returns
-returns c = c.from-u32.ensures ∙ seventeens_nat 3 ∙ sym (same_value _ _ (power_value 17 seventeen_prime three 1))
+returns c = c.from_u32.ensures ∙ seventeens_nat 3 ∙ sym (same_value _ _ (power_value 17 seventeen_prime three 1))

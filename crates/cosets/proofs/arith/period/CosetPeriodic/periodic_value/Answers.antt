@@ -12,20 +12,20 @@ use Rattle.domain.proofs.Logs.{log_some}
 use Rattle.domain.proofs.Through.{through}
 use Rattle.cosets.proofs.arith.period.CosetPeriodic.periodic_value.Goals as goal
 
-pub returns-in-err-less : goal.returns-in-err-less
-returns-in-err-less g c =
+pub returns-in_err-less : goal.returns-in_err-less
+returns-in_err-less g c =
     record {
       through = through g.F.Field.laws g.E.Field.laws g.met.E.Extension.extends (points_of (turns g.F.Field g.F.TwoAdic) c.args.self) c.args.column.now (coset_points_distinct (turns g.F.Field g.F.TwoAdic) g.F.Field.laws g.met.F.TwoAdic.adic c.args.self);
       value = search rules;
     }
 
-pub value-at-requires : goal.value-at-requires
-value-at-requires g c =
+pub value_at-requires : goal.value_at-requires
+value_at-requires g c =
     let t = turns g.F.Field g.F.TwoAdic in
     let column = c.args.column.now in
-    let less = c.in-ok-less.less in
-    let found = log_some (length column) 0 64 less (sym c.log_within.ensures ∙ c.in-ok-less.was) in
-    let within : less ≤ t.most = omega (arith, c.if-less-bits.false, c.log-size-bits.ensures, bits_within t g.F.Field.laws g.met.F.TwoAdic.adic c.args.self) in
+    let less = c.in_ok-less.less in
+    let found = log_some (length column) 0 64 less (sym c.log_within.ensures ∙ c.in_ok-less.was) in
+    let within : less ≤ t.most = omega (arith, c.if-less-bits.false, c.log_size-bits.ensures, bits_within t g.F.Field.laws g.met.F.TwoAdic.adic c.args.self) in
     let same : less ≡ min less t.most = omega arith in
     found.is ∙ ap (λ b. 2 ^ b) same
 
@@ -38,10 +38,10 @@ returns-then-less-bits g c =
     let none = g.F.Field.ops.zero in
     let d = c.args.self in
     let column = c.args.column.now in
-    let less = c.in-ok-less.less in
-    let log_is : log_within 63 (length column) ≡ Some less = sym c.log_within.ensures ∙ c.in-ok-less.was in
+    let less = c.in_ok-less.less in
+    let log_is : log_within 63 (length column) ≡ Some less = sym c.log_within.ensures ∙ c.in_ok-less.was in
     let found = log_some (length column) 0 64 less log_is in
-    let more : bits_of t d < less = omega (arith, c.if-less-bits.true, c.log-size-bits.ensures) in
+    let more : bits_of t d < less = omega (arith, c.if-less-bits.true, c.log_size-bits.ensures) in
     let test : leb (length column) (length (points_of t d)) ≡ false =
     lt-leb (length column) (length (points_of t d)) (omega (arith, found.is, pow-lt more, coset_length t g.F.Field.laws g.met.F.TwoAdic.adic d)) in
     let by_test : Bool → Option g.row.E.Denot = λ u. elim u [ true ↦ Some (interpolated none e o inv (points_of t d) column c.args.z) | false ↦ None ] in
@@ -61,9 +61,9 @@ returns g c =
     let d = c.args.self in
     let z = c.args.z in
     let column = c.args.column.now in
-    let less = c.in-ok-less.less in
-    let bits_is = c.log-size-bits.ensures in
-    let log_is : log_within 63 (length column) ≡ Some less = sym c.log_within.ensures ∙ c.in-ok-less.was in
+    let less = c.in_ok-less.less in
+    let bits_is = c.log_size-bits.ensures in
+    let log_is : log_within 63 (length column) ≡ Some less = sym c.log_within.ensures ∙ c.in_ok-less.was in
     let found = log_some (length column) 0 64 less log_is in
     let within : less ≤ bits_of t d = omega (arith, c.if-less-bits.false, bits_is) in
     let shift_is = c.squared.ensures ∙ ap₂ (λ x k. pow f x (2 ^ (k - less))) c.shift.ensures bits_is in
@@ -75,7 +75,7 @@ returns g c =
       through = through g.F.Field.laws g.E.Field.laws g.met.E.Extension.extends (points_of t d) column (coset_points_distinct t g.F.Field.laws g.met.F.TwoAdic.adic d);
       value =
           ap Some
-          (c.value-at.ensures
+          (c.value_at.ensures
           ∙ ap₂ (λ s x. interpolated none e o inv (points_of t (moved t d s less)) column x) shift_is power_is
           ∙ period_value t g.F.Field.laws g.met.F.TwoAdic.adic g.E.Field.laws g.met.E.Extension.extends d column less within found.is z)
           ∙ sym (ap (periodic_by none e o inv (points_of t d) column z) log_is ∙ ap by_test test);
