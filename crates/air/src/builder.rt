@@ -8,6 +8,7 @@ use field::traits::Field;
 use std::ops::{Add, Mul, Sub};
 
 // What an AIR reads, at most; the number of its boundary cells; and a degree, where it declares one.
+#[derive(Clone, Copy)]
 pub struct Layout {
     pub width: usize,
     pub preprocessed_width: usize,
@@ -19,8 +20,6 @@ pub struct Layout {
     pub boundary_io: usize,
     pub max_constraint_degree: Option<u32>,
 }
-
-impl Copy for Layout {}
 
 // Values with a sum, a difference and a product, each of any two.
 pub trait Algebra: Copy
@@ -106,7 +105,7 @@ pub trait Air<F: Field> {
         ensures { result.now ≡ slice_index_or (periodics self.now) column [] };
 
     fn eval<R: Rows, B: AirBuilder<R::Expr>>(&self, rows: &R, builder: &mut B)
-        ensures { builder.new ≡ asserted step R.Expr.Algebra.operations (reads rows.now) builder.old (constraints self.now) };
+        ensures { builder.new ≡ asserted B.step R.Expr.Algebra.operations (R.reads rows.now) builder.old (constraints self.now) };
 }
 
 // Asserts of each column from one up to another that it is 0 or 1.

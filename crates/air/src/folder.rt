@@ -9,12 +9,11 @@ use field::extension::Extension;
 use field::traits::Field;
 
 // The constraints so far, folded by alpha.
+#[derive(Clone, Copy)]
 pub struct VerifierConstraintFolder<E> {
     alpha: E,
     accumulator: E,
 }
-
-impl<E: Copy> Copy for VerifierConstraintFolder<E> {}
 
 impl<E: Field> AirBuilder<Value<E>> for VerifierConstraintFolder<E> {
     ghost step = { horner E.Field.ops };

@@ -9,6 +9,7 @@ use field::extension::Extension;
 use field::traits::Field;
 
 // Two rows of each trace, of which a next one may be absent, the public values, the periodic columns and the selectors.
+#[derive_where(Clone, Copy; E)]
 pub struct OpenedRows<'a, F, E> {
     pub main: &'a [E],
     pub main_next: Option<&'a [E]>,
@@ -21,12 +22,9 @@ pub struct OpenedRows<'a, F, E> {
     pub is_transition: E,
 }
 
-impl<F, E: Copy> Copy for OpenedRows<'_, F, E> {}
-
 // A row or a list is shorter than the AIR declares.
+#[derive(Clone, Copy)]
 pub struct AirInputsTooShort;
-
-impl Copy for AirInputsTooShort {}
 
 // The cell of a row, or zero past its end.
 fn cell<E: Field>(row: &[E], column: usize) -> E

@@ -9,12 +9,11 @@ use field::extension::Extension;
 use field::traits::Field;
 
 // What is left to pass before the wanted constraint, and its value once it came.
+#[derive(Clone, Copy)]
 pub struct ConstraintPicker<E> {
     left: usize,
     found: Option<E>,
 }
-
-impl<E: Copy> Copy for ConstraintPicker<E> {}
 
 impl<E: Field> AirBuilder<Value<E>> for ConstraintPicker<E> {
     ghost step = { picked };

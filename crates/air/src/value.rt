@@ -7,11 +7,10 @@ use crate::builder::Algebra;
 use field::traits::Field;
 use std::ops::{Add, Mul, Sub};
 
+#[derive(Clone, Copy)]
 pub struct Value<E> {
     pub value: E,
 }
-
-impl<E: Copy> Copy for Value<E> {}
 
 impl<E: Field> Add<Value<E>> for Value<E> {
     type Output = Value<E>;

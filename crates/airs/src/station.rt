@@ -21,9 +21,8 @@ fn byte<R: Rows>(rows: &R) -> R::Expr
         + rows.number(128) * rows.main(8)
 }
 
+#[derive(Clone, Copy)]
 pub struct StationAir;
-
-impl Copy for StationAir {}
 
 impl<F: Field> Air<F> for StationAir {
     ghost declared = { λ _. station_layout };

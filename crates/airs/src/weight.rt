@@ -5,11 +5,10 @@ ghost use Rattle.airs.specs.Weight.{weight, weight_layout};
 use air::builder::{Air, AirBuilder, Layout, Rows};
 use field::traits::Field;
 
+#[derive(Clone, Copy)]
 pub struct WeightAir<F> {
     k: [F; 2],
 }
-
-impl<F: Copy> Copy for WeightAir<F> {}
 
 impl<F: Field> WeightAir<F> {
     pub fn new() -> WeightAir<F>

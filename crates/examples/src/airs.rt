@@ -11,9 +11,8 @@ use residue::moduli::Seventeen;
 use symbolic::{constraint_degree, get_log_num_quotient_chunks};
 
 // The constraints 4, 0 and 2.
+#[derive(Clone, Copy)]
 struct Three;
-
-impl Copy for Three {}
 
 impl<F: Field> Air<F> for Three {
     ghost declared = { λ _. three_layout };
@@ -49,11 +48,10 @@ impl<F: Field> Air<F> for Three {
 }
 
 // No constraint, and a degree.
+#[derive(Clone, Copy)]
 struct Declaring {
     degree: Option<u32>,
 }
-
-impl Copy for Declaring {}
 
 impl<F: Field> Air<F> for Declaring {
     ghost declared = { λ a. declaring a.degree };

@@ -12,11 +12,10 @@ use field::traits::Field;
 use std::ops::{Add, Mul, Sub};
 
 // A degree, which stops at 4294967295.
+#[derive(Clone, Copy)]
 pub struct Degree {
     value: u32,
 }
-
-impl Copy for Degree {}
 
 impl Add<Degree> for Degree {
     type Output = Degree;
@@ -71,11 +70,10 @@ impl Algebra for Degree {
 }
 
 // Rows of which only the degrees matter.
+#[derive(Clone, Copy)]
 pub struct DegreeRows {
     pub transition: u32,
 }
-
-impl Copy for DegreeRows {}
 
 impl Rows for DegreeRows {
     type Expr = Degree;
@@ -126,11 +124,10 @@ impl Rows for DegreeRows {
 }
 
 // The largest degree so far.
+#[derive(Clone, Copy)]
 pub struct DegreeCounter {
     largest: Degree,
 }
-
-impl Copy for DegreeCounter {}
 
 impl AirBuilder<Degree> for DegreeCounter {
     ghost step = { counted };

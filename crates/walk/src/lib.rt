@@ -14,18 +14,16 @@ use airs::station::StationAir;
 use field::traits::{Field, PrimeField};
 
 // A station, then the bits of the step to the next one, less 1, the lowest first.
+#[derive(Clone, Copy)]
 pub struct StationRow<F> {
     pub cells: [F; 9],
 }
 
-impl<F: Copy> Copy for StationRow<F> {}
-
 // Where a walk starts, and where it ends.
+#[derive(Clone, Copy)]
 pub struct WalkEnds<F> {
     pub values: [F; 2],
 }
-
-impl<F: Copy> Copy for WalkEnds<F> {}
 
 fn cells_of<F>(row: &StationRow<F>) -> &[F]
     ensures same { result.now ≡ row.now.cells }
@@ -153,12 +151,11 @@ pub fn failing_constraint<'a, F: Field>(
     None
 }
 
+#[derive(Clone, Copy)]
 pub struct Failure {
     pub row: usize,
     pub constraint: usize,
 }
-
-impl Copy for Failure {}
 
 fn search_rows<'a, F: Field>(rows: &'a [StationRow<F>], ends: &'a WalkEnds<F>) -> Option<Failure>
     ensures { Found F.ops rows.now ends.now result }
