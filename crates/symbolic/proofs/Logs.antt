@@ -1,5 +1,5 @@
 -- That the number of binary digits of m - 1 is the rounded-up logarithm of m. Assumes nothing.
-use Rattle.std.proofs.Common.{◌≡◌, ℕ, zero, suc, ◌+◌, ◌-◌, ◌*◌, ◌^◌, ◌<◌, ◌≤◌, sym, ap, ◌∙◌, subst, ⊎_elim, pow-suc, arith, pow_pos, pow_mono}
+use Rattle.std.proofs.Common.{◌≡◌, ℕ, suc, ◌+◌, ◌-◌, ◌*◌, ◌^◌, ◌<◌, ◌≤◌, subst, ⊎_elim, pow-suc, arith, pow_pos, pow_mono}
 use lib.Count.{count_leading_zeros, leading_length}
 use Rattle.std.proofs.lemmas.Bool.{cases_lt}
 use Rattle.symbolic.specs.Chunks.{RoundedUp, log2_ceil}

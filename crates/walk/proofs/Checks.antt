@@ -1,5 +1,5 @@
 -- That what the search of a table finds says whether the table is a walk. Assumes nothing.
-use Rattle.std.proofs.Common.{◌≡◌, ℕ, zero, suc, ◌+◌, ◌-◌, ◌*◌, ◌<◌, Bool, true, false, not, eqb, ltb, ◌≢◌, List, [], ◌∷◌, length, Some, None, Option, sym, refl, ap, ◌∙◌, subst, arith}
+use Rattle.std.proofs.Common.{◌≡◌, ℕ, zero, suc, ◌+◌, ◌-◌, ◌*◌, ◌<◌, Bool, true, false, not, eqb, ◌≢◌, List, [], ◌∷◌, length, Some, None, Option, sym, refl, ap, ◌∙◌, subst, arith}
 use Rattle.std.proofs.lemmas.List.{length-map}
 use Rattle.std.proofs.lemmas.Bool.{eq-eqb, ne_eqb, lt-ltb, false≢true}
 use Rattle.algebra.specs.Field.{Decides, FieldLaws}
@@ -10,7 +10,7 @@ use Rattle.field.specs.Numbers.{Numbered}
 use Rattle.air.specs.Picker.{constraint_at}
 use Rattle.airs.specs.Station.{station}
 use Rattle.walk.specs.Table.{Clear, Found, WalkIn, Zero, ZeroIn, first_flag, flag, if_there, last_flag, none, public_in, reads_in, table_of, transition_flag, value_in}
-use Rattle.walk.specs.Walk.{Apart, Selectors, Vanish, Walk}
+use Rattle.walk.specs.Walk.{Apart, Selectors, Vanish}
 use Rattle.walk.specs.declared.Failure.{Failure}
 use Rattle.walk.specs.declared.StationRow.{StationRow}
 use Rattle.walk.specs.declared.WalkEnds.{WalkEnds}

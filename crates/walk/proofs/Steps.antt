@@ -1,10 +1,10 @@
 -- The station AIR's constraints, one at a time. Assumes nothing.
-use Rattle.std.proofs.Common.{◌≡◌, ℕ, zero, suc, ◌+◌, ◌*◌, ◌^◌, ◌≢◌, ◌⊎◌, [], ◌∷◌, Some, None, Option, sym, refl, ap, ◌∙◌, ap₂, inl, inr}
+use Rattle.std.proofs.Common.{◌≡◌, ℕ, zero, suc, ◌*◌, ◌^◌, ◌≢◌, ◌⊎◌, [], ◌∷◌, Some, None, Option, sym, refl, ap, ◌∙◌, ap₂, inl, inr}
 use Rattle.algebra.specs.Field.{FieldLaws}
 use Rattle.algebra.specs.Ring.{RingOps, sub, nat}
 use Rattle.algebra.proofs.FieldBasics.{division, zero_of_product}
 use Rattle.algebra.proofs.RingBasics.{nat_add, nat_mul, nat_one, zero-add, zero-mul, equal_of_sub}
-use Rattle.algebra.proofs.RingSolver.{ring, ring_from, shapes, fact, ◌·◌, ◌⊞◌}
+use Rattle.algebra.proofs.RingSolver.{ring_from, shapes, fact, ◌·◌}
 use Rattle.walk.specs.Walk.{spelled}
 
 module _ {F : Type 0} {ops : RingOps F} {inverse : F → Option F} (laws : FieldLaws ops inverse) where

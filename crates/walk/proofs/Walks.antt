@@ -1,12 +1,12 @@
 -- That the station AIR's constraints say that a table is a walk, and that a short walk comes to no station twice. Assumes nothing.
-use Rattle.std.proofs.Common.{◌≡◌, ℕ, zero, suc, ◌+◌, ◌-◌, ◌*◌, ◌^◌, ◌<◌, ◌≤◌, ◌≢◌, ◌⊎◌, List, [], ◌∷◌, length, get_or, Option, sym, refl, ap, ◌∙◌, subst, ap₂, inl, inr, ⊎_elim, mul-le-mul_left, pow-suc, mul-one, arith}
+use Rattle.std.proofs.Common.{◌≡◌, ℕ, zero, suc, ◌+◌, ◌-◌, ◌*◌, ◌^◌, ◌<◌, ◌≤◌, ◌⊎◌, List, [], ◌∷◌, length, get_or, Option, sym, ap, ◌∙◌, inl, inr, ⊎_elim, mul-le-mul_left, pow-suc, mul-one, arith}
 use Rattle.std.proofs.lemmas.List.{get_or_default}
 use Rattle.std.proofs.lemmas.Bool.{cases_lt}
 use Rattle.algebra.specs.Field.{FieldLaws}
 use Rattle.algebra.specs.Polynomial.{Each}
-use Rattle.algebra.specs.Ring.{RingOps, RingLaws, sub, nat}
+use Rattle.algebra.specs.Ring.{RingOps, sub, nat}
 use Rattle.algebra.proofs.RingBasics.{nat_add, nat_one}
-use Rattle.algebra.proofs.RingSolver.{ring_from, shapes, fact, ◌·◌, ◌⊞◌}
+use Rattle.algebra.proofs.RingSolver.{ring_from, shapes, fact, ◌⊞◌}
 use Rattle.expression.specs.Expression.{values, meaning}
 use Rattle.field.specs.Numbers.{Numbered}
 use Rattle.airs.specs.Station.{station, byte}

@@ -1,5 +1,5 @@
 -- Tables of stations, and what the station AIR's constraints say of one. Assumes nothing.
-use Rattle.std.specs.Prelude.{◌≡◌, ℕ, zero, suc, ◌+◌, ◌-◌, ◌*◌, ◌^◌, ◌<◌, ◌≢◌, ◌⊎◌, List, [], ◌∷◌, length, slice_index_or}
+use Rattle.std.specs.Prelude.{◌≡◌, ℕ, zero, suc, ◌+◌, ◌-◌, ◌*◌, ◌^◌, ◌<◌, ◌≢◌, ◌⊎◌, List, [], length, slice_index_or}
 use Rattle.algebra.specs.Polynomial.{Each}
 use Rattle.algebra.specs.Ring.{RingOps, nat}
 use Rattle.expression.specs.Expression.{Leaf, main, main_next, preprocessed, preprocessed_next, public, periodic, is_first, is_last, is_transition, number, values, meaning}

@@ -1,4 +1,4 @@
-use Rattle.std.proofs.Common.{◌∙◌, arith}
+use Rattle.std.proofs.Common.{◌∙◌}
 use Rattle.air.specs.Picker.{constraint_at}
 use Rattle.air.specs.Opened.{covers, opened}
 use Rattle.airs.specs.Station.{station, station_layout}
