@@ -1,5 +1,5 @@
 -- Rows that do not rise, one by one and counted. Assumes nothing.
-use Rattle.std.proofs.Common.{◌≡◌, ℕ, zero, suc, ◌+◌, ◌-◌, ◌<◌, ◌≤◌, Bool, true, false, cond, eqb, ltb, List, length, get_or, take, Some, None, Option, sym, refl, ap, ◌∙◌, subst, ap₂, add-one, arith, ltb-true, le-ltb, lt-ltb, eq-eqb, ne_eqb}
+use Rattle.std.proofs.Common.{◌≡◌, ℕ, zero, suc, ◌+◌, ◌-◌, ◌<◌, ◌≤◌, Bool, true, false, cond, ltb, List, length, get_or, take, Some, None, sym, refl, ap, ◌∙◌, ap₂, add-one, arith, ltb-true, lt-ltb, eq-eqb, ne_eqb}
 use native.Mathlib.Decide.{dec_lt}
 use Rattle.std.specs.List.{prefix_len}
 use Rattle.bench_list.specs.Rising.{Rising, differs, rises_at, broken, break_at, breaks_below}

@@ -1,5 +1,5 @@
 -- Lists whose numbers rise from row to row, and the rows where they do not. Assumes nothing.
-use Rattle.std.specs.Prelude.{◌≡◌, ℕ, zero, suc, ◌+◌, ◌-◌, ◌<◌, Bool, true, false, cond, List, length, take, Some, None, Option, ◌==◌, nat_lt, slice_index}
+use Rattle.std.specs.Prelude.{ℕ, zero, suc, ◌+◌, ◌-◌, ◌<◌, Bool, true, false, cond, List, length, take, Some, None, Option, ◌==◌, nat_lt, slice_index}
 use Rattle.std.specs.List.{prefix_len}
 use Rattle.bench_list.specs.declared.breaks.Break.{Break}
 use Rattle.bench_list.specs.declared.breaks.Break.TheVariants.{Duplicate, Fall}

@@ -1,11 +1,11 @@
 -- Arithmetic modulo p. Assumes nothing.
 use Rattle.std.specs.Prelude.{ℕ, zero, suc, ◌+◌, ◌-◌, ◌*◌, ◌/◌, ◌%◌, ◌<◌, true, false, Some, None, Option, nat_lt}
-use Rattle.std.proofs.Common.{mod-lt, arith}
+use Rattle.std.proofs.Common.{mod-lt, le_of_lt}
 use Rattle.residue.specs.declared.Residue.{Residue}
 use Rattle.algebra.specs.Ring.{RingOps}
 
 abbrev pub reduced : (p : ℕ) → 1 < p → ℕ → Residue p
-reduced p more n = record { value = n % p; below = mod-lt n {m = p} (omega arith) }
+reduced p more n = record { value = n % p; below = mod-lt n {m = p} (le_of_lt more) }
 
 -- from x * found ≡ left to the found of left 1: the next left is p % left
 unfoldable pub found_from : (p steps found left : ℕ) → ℕ

@@ -12,7 +12,7 @@ where
 {
     // n modulo P
     fn of(n: u64) -> Self
-        ensures { result ≡ reduced P prime.above_one n }
+        ensures { result ≡ reduced P ⟦<Self as Modulus<P>>⟧.prime.above_one n }
     {
         Residue {
             value: (n % P as u64) as u32,
@@ -24,11 +24,11 @@ impl<const P: u32> Field for Residue<P>
 where
     Self: Modulus<P>,
 {
-    ghost ops = { residue_ops P prime.above_one };
+    ghost ops = { residue_ops P ⟦<Self as Modulus<P>>⟧.prime.above_one };
 
-    ghost inverted = { residue_inverse P prime.above_one };
+    ghost inverted = { residue_inverse P ⟦<Self as Modulus<P>>⟧.prime.above_one };
 
-    ghost laws = { residue_laws P prime.above_one prime };
+    ghost laws = { residue_laws P ⟦<Self as Modulus<P>>⟧.prime.above_one ⟦<Self as Modulus<P>>⟧.prime };
 
     fn zero() -> Self {
         Self::of(0)

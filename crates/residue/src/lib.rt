@@ -13,12 +13,11 @@ pub trait Modulus<const P: u32> {
     ghost prime: { Prime P };
 }
 
+#[derive(Clone, Copy)]
 pub struct Residue<const P: u32> {
     value: u32,
     ghost below: { value < P },
 }
-
-impl<const P: u32> Copy for Residue<P> {}
 
 impl<const P: u32> Residue<P> {
     pub fn value(self) -> u32

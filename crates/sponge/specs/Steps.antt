@@ -1,5 +1,5 @@
 -- What a sponge is: how taking a number changes it, how giving changes it, and the word that it gives. Assumes nothing.
-use Rattle.std.specs.Prelude.{Bool, ◌&&◌, ℕ, ◌+◌, ◌%◌, ◌^◌, eqb, leb}
+use Rattle.std.specs.Prelude.{Bool, ◌&&◌, ℕ, ◌%◌, ◌^◌, eqb, leb}
 
 pub record Steps (S : Type 0) : Type 0 where
   pub taken : S → ℕ → S

@@ -1,6 +1,6 @@
 -- Fermat's little theorem, by the binomial theorem, and what it says of squares. Assumes nothing.
-use Rattle.std.specs.Prelude.{◌≡◌, ℕ, zero, suc, pred, ◌+◌, ◌-◌, ◌*◌, ◌%◌, ◌^◌, ◌<◌, ◌≤◌, refl}
-use Rattle.std.proofs.Common.{sym, ap, ap₂, subst, ◌∙◌, zero-add, add-mul, suc-mul, zero-mul, mul-one, mul-add, mul-zero, mul_comm, mul_left_comm, mul_assoc, pow-suc, one-mul, mod-eq_of_lt, one-add, arith}
+use Rattle.std.specs.Prelude.{◌≡◌, ℕ, zero, suc, pred, ◌+◌, ◌*◌, ◌%◌, ◌^◌, ◌<◌, refl}
+use Rattle.std.proofs.Common.{sym, ap, ap₂, subst, ◌∙◌, add-mul, suc-mul, zero-mul, mul-one, mul-add, mul-zero, mul_comm, mul_left_comm, mul_assoc, pow-suc, one-mul, mod-eq_of_lt, one-add, arith}
 use Rattle.std.proofs.Math.Nat.{pow-zero, suc-pred-eq_of_pos, zero-mod, add-mod, mod-add-mod, add-mod-mod, mul-mod_right}
 use Rattle.residue.specs.Laws.Modular.{mul_mod_mod, mod_mul_mod}
 use Rattle.residue.specs.Prime.{Prime}

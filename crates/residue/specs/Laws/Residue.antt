@@ -1,7 +1,7 @@
 -- Residues keep the laws of a field. Assumes nothing.
-use Rattle.std.specs.Prelude.{◌≡◌, ℕ, zero, suc, ◌+◌, ◌-◌, ◌*◌, ◌/◌, ◌%◌, ◌<◌, ◌≤◌, Bool, true, false, Some, None, Option, nat_lt}
+use Rattle.std.specs.Prelude.{◌≡◌, ℕ, zero, suc, ◌+◌, ◌-◌, ◌*◌, ◌/◌, ◌%◌, ◌<◌, ◌≤◌, Bool, true, false, Some, None, nat_lt}
 use Rattle.std.proofs.Math.Path.{refl, ap}
-use Rattle.std.proofs.Common.{sym, ◌∙◌, ⊎_elim, add-zero, add_comm, add_assoc, zero-mul, mul-one, mul_comm, mul_left_comm, mul_assoc, mul-add, mod-eq_of_lt, le_refl, pos_of_ne-zero, eq-zero-or-pos, one-add, arith}
+use Rattle.std.proofs.Common.{sym, ◌∙◌, ⊎_elim, add-zero, add_comm, add_assoc, zero-mul, mul-one, mul_comm, mul_left_comm, mul_assoc, mul-add, mod-eq_of_lt, le_refl, eq-zero-or-pos, one-add, arith}
 use mathlib.Core.HLevel.{is_prop→PathP}
 use Rattle.std.proofs.Math.Bridge.{le_prop}
 use Rattle.std.proofs.Math.Nat.{mod-lt, mod-add-mod, add-mod-mod, mod_self, zero-mod}
@@ -75,13 +75,13 @@ module _ (p : ℕ) (more : 1 < p) (prime : Prime p) where
   ring_laws = record {
     add_comm = λ x y. ap (reduced p more) (add_comm x.value y.value);
     add_assoc = λ x y z. same_value _ _ (simp (mod-add-mod, add-mod-mod, add_assoc));
-    add-zero = λ x. same_value _ _ (simp (zero-mod, add-zero) (small x.below));
+    add_zero = λ x. same_value _ _ (simp (zero-mod, add-zero) (small x.below));
     add_neg = λ x. same_value _ _
         (add-mod-mod x.value (p - x.value) p ∙ ap (λ t. t % p) (all x) ∙ mod_self p ∙ sym (zero-mod p));
     mul_comm = λ x y. ap (reduced p more) (mul_comm x.value y.value);
     mul_assoc = λ x y z. same_value _ _ (simp (mod_mul_mod, mul_mod_mod, mul_assoc));
-    mul-one = λ x. same_value _ _ (simp (mul_mod_mod, mul-one) (small x.below));
-    mul-add = λ x y z. same_value _ _ (simp (mod-add-mod, add-mod-mod, mul_mod_mod, mul-add));
+    mul_one = λ x. same_value _ _ (simp (mul_mod_mod, mul-one) (small x.below));
+    mul_add = λ x y z. same_value _ _ (simp (mod-add-mod, add-mod-mod, mul_mod_mod, mul-add));
   }
     where
       all : (x : Residue p) → x.value + (p - x.value) ≡ p

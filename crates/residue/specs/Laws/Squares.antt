@@ -1,6 +1,6 @@
 -- Repeated squaring modulo p: roots of unity, and numbers that are no square. Assumes nothing.
-use Rattle.std.specs.Prelude.{◌≡◌, ℕ, zero, suc, ◌+◌, ◌-◌, ◌*◌, ◌%◌, ◌^◌, ◌<◌, ◌≤◌, ◌≢◌, refl}
-use Rattle.std.proofs.Common.{sym, ap, ◌∙◌, mul-one, one-mul, mul-zero, mul-suc, mul_comm, pow-suc, mod-lt, mod-eq_of_lt, pos_of_ne-zero, ne_of_gt, le-mul_of_pos_right, arith, pow-add}
+use Rattle.std.specs.Prelude.{◌≡◌, ℕ, zero, suc, ◌+◌, ◌-◌, ◌*◌, ◌%◌, ◌^◌, ◌<◌, ◌≢◌}
+use Rattle.std.proofs.Common.{sym, ap, ◌∙◌, one-mul, mul-zero, mul-suc, mul_comm, pow-suc, mod-lt, mod-eq_of_lt, pos_of_ne-zero, ne_of_gt, le-mul_of_pos_right, arith, pow-add}
 use Rattle.std.proofs.Math.Nat.{mul-sub, pow-zero, zero-mod, mul-add-mod_self_right}
 use Rattle.residue.specs.Laws.Fermat.{fermat}
 use Rattle.residue.specs.Laws.Modular.{mul_mod_mod, mod_mul_mod}

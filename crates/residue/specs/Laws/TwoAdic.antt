@@ -1,8 +1,8 @@
 -- 3 modulo 17, and 31 modulo 15 * 2 ^ 27 + 1. Assumes nothing.
-use Rattle.std.specs.Prelude.{◌≡◌, ℕ, zero, suc, ◌*◌, ◌%◌, ◌^◌, refl}
+use Rattle.std.specs.Prelude.{◌≡◌, ℕ, zero, suc, ◌*◌, ◌%◌, ◌^◌}
 use Rattle.std.proofs.Common.{sym, ap, ◌∙◌, mul_comm, pow-suc, arith, lit<, lit≤}
 use Rattle.std.proofs.Math.Nat.{pow-zero}
-use Rattle.algebra.specs.Ring.{RingOps, pow}
+use Rattle.algebra.specs.Ring.{pow}
 use Rattle.residue.specs.declared.Residue.{Residue}
 use Rattle.residue.specs.Moduli.{seventeen_prime, babybear_prime, residues, seventeens}
 use Rattle.residue.specs.Residue.{reduced, residue_ops}

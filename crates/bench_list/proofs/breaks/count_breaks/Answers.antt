@@ -1,4 +1,4 @@
-use Rattle.std.proofs.Common.{◌≡◌, ℕ, ◌+◌, cond, length, sym, ap, ◌∙◌, add-zero, arith}
+use Rattle.std.proofs.Common.{◌≡◌, ℕ, cond, length, sym, ap, ◌∙◌, arith}
 use Rattle.bench_list.specs.Rising.{breaks_below}
 use Rattle.bench_list.proofs.RisingSteps.{one_more_row, rising_of_none, none_of_rising}
 use Rattle.bench_list.proofs.breaks.count_breaks.Goals as goal

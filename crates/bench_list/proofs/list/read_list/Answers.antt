@@ -1,8 +1,7 @@
-use Rattle.std.proofs.Common.{◌+◌, ◌-◌, [], length, take, drop, Ok, Err, sym, subst, add-one, arith}
+use Rattle.std.proofs.Common.{◌+◌, [], drop, Ok, add-one, arith}
 use Rattle.std.proofs.lemmas.Result.{err_from_is_err_and}
 use Rattle.bench_list.specs.Lines.{lines_of}
-use Rattle.bench_list.specs.Reading.{Read, reading}
-use Rattle.bench_list.proofs.ReadSteps.{Going, Next, end_within, more_lines, last_line, some_lines, line_taken, done}
+use Rattle.bench_list.proofs.ReadSteps.{end_within, more_lines, last_line, some_lines, line_taken, done}
 use Rattle.bench_list.proofs.list.read_list.Goals as goal
 
 pub slice_bounds-take_line-end : goal.slice_bounds-take_line-end
@@ -31,5 +30,5 @@ lines-preserved c =
     let more = more_lines text c.lines.at end c.lines.invariant.0 c.line_end-end.ensures c.if-end-text.false in (
       omega arith,
       omega (arith, c.lines.invariant.1, c.line_end-end.ensures),
-      rw add-one (line_taken _ _ _ _ _ _ (lines_of (drop (end + 1) text)) _ (Ok c.in_ok-count.count) _ more c.lines.invariant.2 c.in_ok-count.ensures),
+      rw (add-one c.lines.line) (line_taken _ _ _ _ _ _ (lines_of (drop (end + 1) text)) _ (Ok c.in_ok-count.count) _ more c.lines.invariant.2 c.in_ok-count.ensures),
     )

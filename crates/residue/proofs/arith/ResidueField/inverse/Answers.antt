@@ -1,4 +1,4 @@
-use Rattle.std.proofs.Common.{◌≡◌, ◌-◌, ◌*◌, ◌/◌, ◌%◌, sym, ap, ◌∙◌, mod-lt, mod-eq_of_lt, mul-one, arith, rules}
+use Rattle.std.proofs.Common.{◌*◌, ◌%◌, sym, ap, ◌∙◌, mod-lt, mod-eq_of_lt, mul-one, arith, rules}
 use Rattle.residue.specs.Laws.Modular.{turn}
 use Rattle.residue.specs.Laws.Residue.{left_positive, inverse_is}
 use Rattle.residue.proofs.arith.ResidueField.inverse.Goals as goal
