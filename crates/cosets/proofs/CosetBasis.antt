@@ -1,5 +1,5 @@
 -- The polynomial through a column on a coset as a sum of powers of w / point. Assumes nothing.
-use Rattle.std.proofs.Common.{◌≡◌, ℕ, zero, suc, ◌+◌, ◌*◌, ◌%◌, ◌^◌, ◌<◌, ◌≤◌, ◌≢◌, List, [], ◌∷◌, length, get_or, Option, sym, refl, ap, ◌∙◌, ap₂, le_refl, mod-eq_of_lt, mul_comm, zero-add, arith}
+use Rattle.std.proofs.Common.{◌≡◌, ℕ, zero, suc, ◌+◌, ◌%◌, ◌^◌, ◌<◌, ◌≤◌, ◌≢◌, List, [], ◌∷◌, length, get_or, Option, sym, refl, ap, ◌∙◌, ap₂, le_refl, mod-eq_of_lt, mul_comm, zero-add, arith}
 use Rattle.algebra.specs.Ring.{RingOps, RingLaws, pow, nat, sub}
 use Rattle.algebra.specs.Field.{FieldLaws, total}
 use Rattle.algebra.specs.Polynomial.{Each, Distinct, eval, scaled}
@@ -9,14 +9,14 @@ use Rattle.algebra.proofs.Powers.{pow_one}
 use Rattle.algebra.proofs.CosetProduct.{double}
 use Rattle.algebra.proofs.CosetVanishing.{coset_at, pow_mul, pow_pow, pow_ne_zero}
 use Rattle.algebra.proofs.RingBasics.{nat_add, nat_one, one-mul}
-use Rattle.algebra.proofs.RingSolver.{ring, ring_from, shapes, fact, ◌·◌, ◌⊞◌}
+use Rattle.algebra.proofs.RingSolver.{ring_from, shapes, fact, ◌·◌, ◌⊞◌}
 use Rattle.field.specs.Extension.{Extends}
-use Rattle.field.specs.TwoAdic.{TwoAdicLaws, root}
+use Rattle.field.specs.TwoAdic.{TwoAdicLaws}
 use Rattle.field.proofs.RootOrder.{root_whole}
 use Rattle.cosets.specs.declared.Coset.{Coset}
 use Rattle.cosets.specs.Coset.{Turns, shift_of, bits_of, step_of, points_of}
 use Rattle.cosets.specs.Sums.{sums, geometric}
-use Rattle.cosets.proofs.CosetLaws.{shift_nonzero, step_nonzero, bits_within, coset_length, coset_points_distinct}
+use Rattle.cosets.specs.CosetLaws.{shift_nonzero, step_nonzero, bits_within, coset_length, coset_points_distinct}
 use Rattle.cosets.proofs.Geometric.{geometric_times, geometric_one, powers_list, length_powers, eval_powers, sums_same, sums_one, sum_list, eval_sums, length_sums}
 use Rattle.domain.specs.Periodic.{interpolated}
 use Rattle.domain.proofs.Embedding.{keeps_zero}

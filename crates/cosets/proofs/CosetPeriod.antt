@@ -1,7 +1,7 @@
 -- A periodic column on a coset is a column on a smaller one, at a power of z. Assumes nothing.
-use Rattle.std.proofs.Common.{◌≡◌, ℕ, zero, suc, ◌+◌, ◌-◌, ◌*◌, ◌/◌, ◌%◌, ◌^◌, ◌<◌, ◌≤◌, ◌≢◌, List, [], ◌∷◌, length, get_or, Option, sym, refl, ap, ◌∙◌, ap₂, le_refl, mod-lt, mul_comm, mul-le-mul, zero-add, arith, pow_pos, pow-add as power_add}
+use Rattle.std.proofs.Common.{◌≡◌, ℕ, suc, ◌+◌, ◌-◌, ◌*◌, ◌/◌, ◌%◌, ◌^◌, ◌<◌, ◌≤◌, List, length, get_or, Option, sym, ap, ◌∙◌, le_refl, mod-lt, mul_comm, mul-le-mul, zero-add, arith, pow_pos, pow-add as power_add}
 use native.Mathlib.Nat.{div-add-mod, mod-mod}
-use Rattle.algebra.specs.Ring.{RingOps, RingLaws, pow}
+use Rattle.algebra.specs.Ring.{RingOps, pow}
 use Rattle.algebra.specs.Field.{FieldLaws, total}
 use Rattle.algebra.specs.Polynomial.{eval}
 use Rattle.algebra.specs.Domain.{coset}
@@ -17,7 +17,7 @@ use Rattle.field.proofs.RootOrder.{root_power, root_whole}
 use Rattle.cosets.specs.declared.Coset.{Coset}
 use Rattle.cosets.specs.Coset.{Turns, shift_of, bits_of, step_of, points_of, moved}
 use Rattle.domain.specs.Periodic.{samples, interpolated}
-use Rattle.cosets.proofs.CosetLaws.{shift_nonzero, bits_within, coset_length, coset_points_distinct, moved_points}
+use Rattle.cosets.specs.CosetLaws.{shift_nonzero, bits_within, coset_length, coset_points_distinct, moved_points}
 use Rattle.domain.proofs.Embedding.{keeps_pow}
 use Rattle.cosets.proofs.Spread.{spread, eval_spread, length_spread}
 use Rattle.domain.proofs.Through.{length_samples, takes, through}

@@ -1,17 +1,17 @@
 -- The selectors of a coset times what they were divided by. Assumes nothing.
-use Rattle.std.proofs.Common.{◌≡◌, ℕ, ◌^◌, ◌≢◌, [], ◌∷◌, Some, None, Option, sym, refl, ap, ◌∙◌, subst, ap₂, le_refl, arith}
+use Rattle.std.proofs.Common.{◌≡◌, ℕ, ◌^◌, ◌≢◌, [], ◌∷◌, Some, None, Option, sym, refl, ap, ◌∙◌, subst, le_refl, arith}
 use Rattle.algebra.specs.Ring.{RingOps, pow, sub}
 use Rattle.algebra.specs.Field.{FieldLaws, total}
 use Rattle.algebra.proofs.FieldBasics.{division, sub_ne_zero}
 use Rattle.algebra.proofs.Powers.{pow_one}
 use Rattle.algebra.proofs.CosetVanishing.{pow_mul}
-use Rattle.algebra.proofs.RingSolver.{ring, ring_from, shapes, fact, ◌·◌, ◌⊞◌}
+use Rattle.algebra.proofs.RingSolver.{ring_from, shapes, fact, ◌·◌, ◌⊞◌}
 use Rattle.field.specs.Extension.{Extends}
 use Rattle.field.specs.TwoAdic.{TwoAdicLaws}
 use Rattle.field.proofs.RootOrder.{root_whole}
 use Rattle.cosets.specs.declared.Coset.{Coset}
 use Rattle.cosets.specs.Coset.{Turns, bits_of, step_of, turned_of, vanish_of, first_of, last_of, transition_of, Divided}
-use Rattle.cosets.proofs.CosetLaws.{step_nonzero, bits_within}
+use Rattle.cosets.specs.CosetLaws.{step_nonzero, bits_within}
 use Rattle.domain.specs.declared.selectors.Selectors.{Selectors}
 use Rattle.domain.specs.Selected.{selected}
 use Rattle.domain.proofs.Embedding.{keeps_pow}

@@ -6,14 +6,14 @@ use Rattle.algebra.specs.Domain.{vanishing}
 use Rattle.algebra.proofs.FieldBasics.{division}
 use Rattle.algebra.proofs.Powers.{pow_one}
 use Rattle.algebra.proofs.CosetVanishing.{pow_mul, vanishing_coset}
-use Rattle.algebra.proofs.RingSolver.{ring, ring_from, shapes, fact, ◌·◌, ◌⊞◌}
+use Rattle.algebra.proofs.RingSolver.{ring_from, shapes, fact, ◌·◌, ◌⊞◌}
 use Rattle.field.specs.Extension.{Extends}
-use Rattle.field.specs.TwoAdic.{TwoAdicLaws, root}
+use Rattle.field.specs.TwoAdic.{TwoAdicLaws}
 use Rattle.field.proofs.RootOrder.{root_turn}
 use Rattle.cosets.specs.declared.Coset.{Coset}
-use Rattle.cosets.specs.Coset.{Turns, shift_of, bits_of, step_of, points_of, scale_of, turned_of, vanish_of}
+use Rattle.cosets.specs.Coset.{Turns, shift_of, bits_of, step_of, points_of, scale_of, vanish_of}
 use Rattle.domain.specs.Selected.{vanishing_at}
-use Rattle.cosets.proofs.CosetLaws.{shift_nonzero, bits_within}
+use Rattle.cosets.specs.CosetLaws.{shift_nonzero, bits_within}
 use Rattle.domain.proofs.Embedding.{keeps_pow, keeps_turn, keeps_coset}
 
 module _ {F E : Type 0} (t : Turns F) (laws : FieldLaws t.ops t.inverse) (adic : TwoAdicLaws t.ops t.generator t.odd t.most t.apart)

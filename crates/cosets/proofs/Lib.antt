@@ -1,5 +1,4 @@
 pub mod CosetBasis
-pub mod CosetLaws
 pub mod CosetPeriod
 pub mod CosetSelectors
 pub mod CosetValue

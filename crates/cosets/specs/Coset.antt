@@ -1,5 +1,5 @@
 -- A coset: shift * g^i, where g has the order 2^bits. Assumes nothing.
-use Rattle.std.specs.Prelude.{◌≡◌, ℕ, ◌-◌, ◌*◌, ◌^◌, min, true, false, ◌≢◌, List, Some, None, Option, nat_le, nat_lt}
+use Rattle.std.specs.Prelude.{◌≡◌, ℕ, ◌-◌, ◌^◌, min, true, false, ◌≢◌, List, Some, None, Option, nat_le, nat_lt}
 use Rattle.algebra.specs.Ring.{RingOps, pow, sub}
 use Rattle.algebra.specs.Field.{total}
 use Rattle.algebra.specs.Domain.{coset}

@@ -1,2 +1,3 @@
 pub mod Coset
+pub mod CosetLaws
 pub mod Sums

@@ -8,6 +8,7 @@ ghost use Rattle.algebra.specs.Field.{total};
 ghost use Rattle.algebra.specs.Ring.{sub};
 ghost use Rattle.domain.specs.Selected.{selected};
 ghost use Rattle.field.specs.TwoAdic.{root};
+ghost use Rattle.cosets.specs.CosetLaws.{coset_points_distinct, coset_doubled, coset_scaled, coset_separate, coset_parted, coset_unparted};
 
 use crate::Coset;
 use domain::powers;
@@ -19,14 +20,14 @@ use field::roots::TwoAdic;
 use field::traits::Field;
 
 fn log_size<F: TwoAdic, E: Copy>(d: Coset<F, E>) -> u32
-    ensures { result ≡ bits_of (turns F.Field F.TwoAdic) d }
+    ensures { result ≡ bits_of (turns F.Field F.TwoAdic.own) d }
 {
     let most = F::greatest_bits();
     if d.bits <= most { d.bits } else { most }
 }
 
 fn shift<F: TwoAdic, E: Copy>(d: Coset<F, E>) -> F
-    ensures { result ≡ shift_of (turns F.Field F.TwoAdic) d }
+    ensures { result ≡ shift_of (turns F.Field F.TwoAdic.own) d }
 {
     match d.shift.inverse() {
         None => F::one(),
@@ -35,7 +36,7 @@ fn shift<F: TwoAdic, E: Copy>(d: Coset<F, E>) -> F
 }
 
 fn step<F: TwoAdic, E: Copy>(d: Coset<F, E>) -> F
-    ensures { result ≡ step_of (turns F.Field F.TwoAdic) d }
+    ensures { result ≡ step_of (turns F.Field F.TwoAdic.own) d }
 {
     match roots::root_of_unity(log_size(d)) {
         Some(g) => g,
@@ -45,14 +46,14 @@ fn step<F: TwoAdic, E: Copy>(d: Coset<F, E>) -> F
 
 // shift * g^i, for i below the size. Absent where the shift is zero, or where the size is no power of two or none that F has a root of.
 pub fn coset<F: TwoAdic, E: Extension<F>>(shift: F, size: usize) -> Option<Coset<F, E>>
-    ensures value { result ≡ placed (turns F.Field F.TwoAdic) shift size }
-    ensures points { (d : Coset F E) → result ≡ Some d → ((bits : ℕ) × (size ≡ 2 ^ bits) × (points_of (turns F.Field F.TwoAdic) d ≡ turned_points F.Field.ops shift (root F.Field.ops F.TwoAdic.generated F.TwoAdic.odd F.TwoAdic.bits bits) size)) }
+    ensures value { result ≡ placed (turns F.Field F.TwoAdic.own) shift size }
+    ensures points { (d : Coset F E) → result ≡ Some d → ((bits : ℕ) × (size ≡ 2 ^ bits) × (points_of (turns F.Field F.TwoAdic.own) d ≡ turned_points F.Field.ops shift (root F.Field.ops F.TwoAdic.generated F.TwoAdic.odd F.TwoAdic.bits bits) size)) }
 {
     checked(shift, size)
 }
 
 fn checked<F: TwoAdic, E: Extension<F>>(shift: F, size: usize) -> Option<Coset<F, E>>
-    ensures { result ≡ placed (turns F.Field F.TwoAdic) shift size }
+    ensures { result ≡ placed (turns F.Field F.TwoAdic.own) shift size }
 {
     let _inverse = shift.inverse()?;
     let bits = powers::log_within(F::greatest_bits(), size)?;
@@ -65,7 +66,7 @@ fn checked<F: TwoAdic, E: Extension<F>>(shift: F, size: usize) -> Option<Coset<F
 
 // 1, g, g^2 and so on, 2^bits points. Absent where F has no root of that order.
 pub fn natural<F: TwoAdic, E: Extension<F>>(bits: u32) -> Option<Coset<F, E>>
-    ensures { result ≡ natural_of (turns F.Field F.TwoAdic) bits }
+    ensures { result ≡ natural_of (turns F.Field F.TwoAdic.own) bits }
 {
     if bits > F::greatest_bits() {
         return None;
@@ -79,21 +80,21 @@ pub fn natural<F: TwoAdic, E: Extension<F>>(bits: u32) -> Option<Coset<F, E>>
 
 // z over the shift.
 fn turned<F: TwoAdic, E: Extension<F>>(d: Coset<F, E>, z: E) -> E
-    ensures { result ≡ turned_of (turns F.Field F.TwoAdic) E.Field.ops E.Field.inverted E.Extension.embedded d z }
+    ensures { result ≡ turned_of (turns F.Field F.TwoAdic.own) E.Field.ops E.Field.inverted E.Extension.embedded d z }
 {
     z.mul(E::embed(powers::inverse_or_zero(shift(d))))
 }
 
 fn vanish<F: TwoAdic, E: Extension<F>>(d: Coset<F, E>, z: E) -> E
-    ensures { result ≡ vanish_of (turns F.Field F.TwoAdic) E.Field.ops E.Field.inverted E.Extension.embedded d z }
+    ensures { result ≡ vanish_of (turns F.Field F.TwoAdic.own) E.Field.ops E.Field.inverted E.Extension.embedded d z }
 {
     powers::squared(turned(d, z), log_size(d)).sub(E::one())
 }
 
 // The selectors at z; where they are present, u is neither 1 nor 1/g, and first and last times what they were divided by is V.
 pub fn selectors<F: TwoAdic, E: Extension<F>>(d: Coset<F, E>, z: E) -> Option<Selectors<E>>
-    ensures value { result ≡ selected (first_of (turns F.Field F.TwoAdic) E.Field.ops E.Field.inverted E.Extension.embedded d z) (last_of (turns F.Field F.TwoAdic) E.Field.ops E.Field.inverted E.Extension.embedded d z) (transition_of (turns F.Field F.TwoAdic) E.Field.ops E.Field.inverted E.Extension.embedded d z) (E.Field.inverted (vanish_of (turns F.Field F.TwoAdic) E.Field.ops E.Field.inverted E.Extension.embedded d z)) }
-    ensures divided { (s : Selectors E) → result ≡ Some s → Divided (turns F.Field F.TwoAdic) E.Field.ops E.Field.inverted E.Extension.embedded d z s }
+    ensures value { result ≡ selected (first_of (turns F.Field F.TwoAdic.own) E.Field.ops E.Field.inverted E.Extension.embedded d z) (last_of (turns F.Field F.TwoAdic.own) E.Field.ops E.Field.inverted E.Extension.embedded d z) (transition_of (turns F.Field F.TwoAdic.own) E.Field.ops E.Field.inverted E.Extension.embedded d z) (E.Field.inverted (vanish_of (turns F.Field F.TwoAdic.own) E.Field.ops E.Field.inverted E.Extension.embedded d z)) }
+    ensures divided { (s : Selectors E) → result ≡ Some s → Divided (turns F.Field F.TwoAdic.own) E.Field.ops E.Field.inverted E.Extension.embedded d z s }
 {
     let v = vanish(d, z);
     let inverse = v.inverse()?;
@@ -119,23 +120,35 @@ impl<F: TwoAdic, E: Extension<F>> Domain for Coset<F, E> {
 
     type Ext = E;
 
-    ghost points = { points_of (turns F.Field F.TwoAdic) };
+    ghost points = { points_of (turns F.Field F.TwoAdic.own) };
 
-    ghost scale = { scale_of (turns F.Field F.TwoAdic) };
+    ghost scale = { scale_of (turns F.Field F.TwoAdic.own) };
 
-    ghost first = { first_of (turns F.Field F.TwoAdic) E.Field.ops E.Field.inverted E.Extension.embedded };
+    ghost first = { first_of (turns F.Field F.TwoAdic.own) E.Field.ops E.Field.inverted E.Extension.embedded };
 
-    ghost last = { last_of (turns F.Field F.TwoAdic) E.Field.ops E.Field.inverted E.Extension.embedded };
+    ghost last = { last_of (turns F.Field F.TwoAdic.own) E.Field.ops E.Field.inverted E.Extension.embedded };
 
-    ghost transition = { transition_of (turns F.Field F.TwoAdic) E.Field.ops E.Field.inverted E.Extension.embedded };
+    ghost transition = { transition_of (turns F.Field F.TwoAdic.own) E.Field.ops E.Field.inverted E.Extension.embedded };
 
-    ghost following = { following_of (turns F.Field F.TwoAdic) E.Field.ops E.Field.inverted E.Extension.embedded };
+    ghost following = { following_of (turns F.Field F.TwoAdic.own) E.Field.ops E.Field.inverted E.Extension.embedded };
 
-    ghost beside = { beside_of (turns F.Field F.TwoAdic) };
+    ghost beside = { beside_of (turns F.Field F.TwoAdic.own) };
 
-    ghost pieces = { pieces_of (turns F.Field F.TwoAdic) };
+    ghost pieces = { pieces_of (turns F.Field F.TwoAdic.own) };
 
     ghost degree = { 0 };
+
+    ghost distinct = { coset_points_distinct (turns F.Field F.TwoAdic.own) F.Field.laws F.TwoAdic.adic };
+
+    ghost doubled = { coset_doubled (turns F.Field F.TwoAdic.own) F.Field.laws F.TwoAdic.adic };
+
+    ghost scaled = { coset_scaled (turns F.Field F.TwoAdic.own) F.Field.laws F.TwoAdic.adic };
+
+    ghost separate = { coset_separate (turns F.Field F.TwoAdic.own) F.Field.laws F.TwoAdic.adic };
+
+    ghost parted = { coset_parted (turns F.Field F.TwoAdic.own) F.Field.laws F.TwoAdic.adic };
+
+    ghost unparted = { coset_unparted (turns F.Field F.TwoAdic.own) F.Field.laws F.TwoAdic.adic };
 
     fn size(self) -> usize {
         1 << log_size(self)

@@ -1,10 +1,9 @@
 -- The logarithm of a power of two, and the divisors of such a power. Assumes nothing.
-use Rattle.std.proofs.Common.{◌≡◌, ℕ, zero, suc, ◌+◌, ◌-◌, ◌*◌, ◌/◌, ◌%◌, ◌^◌, ◌<◌, ◌≤◌, Bool, true, false, eqb, ◌≢◌, Some, None, Option, sym, refl, ap, ◌∙◌, ap₂, mul_assoc, mul_comm, mul_left_comm, arith, eq-eqb, ne_eqb, eqb-true}
-use native.Mathlib.Nat.{div-add-mod}
+use Rattle.std.proofs.Common.{◌≡◌, ℕ, zero, suc, ◌+◌, ◌-◌, ◌*◌, ◌/◌, ◌%◌, ◌^◌, ◌<◌, ◌≤◌, Bool, true, false, eqb, ◌≢◌, Some, None, Option, refl, ap, ◌∙◌, ap₂, mul_assoc, mul_left_comm, arith, eq-eqb, ne_eqb, eqb-true}
 use native.Mathlib.Decide.{dec_lt}
 use borrow.Author.Tests.{eqb-false}
 use Rattle.algebra.proofs.CosetProduct.{double}
-use Rattle.domain.specs.Logarithm.{log_from, log_within}
+use Rattle.domain.specs.Logarithm.{log_from}
 
 pub record Log (n k count b : ℕ) : Type 0 where
   pub is : n ≡ 2 ^ b

@@ -1,12 +1,12 @@
 -- The polynomial through a column's values at the points: it takes them, and no other of degree below n does. Assumes nothing.
-use Rattle.std.proofs.Common.{◌≡◌, ℕ, zero, suc, ◌+◌, ◌%◌, ◌<◌, ◌≤◌, ◌≢◌, List, [], ◌∷◌, map, length, get_or, Option, sym, refl, ap, ◌∙◌, subst, ap₂, arith}
-use Rattle.algebra.specs.Ring.{RingOps, RingLaws, sub}
+use Rattle.std.proofs.Common.{◌≡◌, ℕ, zero, suc, ◌+◌, ◌%◌, ◌<◌, ◌≤◌, ◌≢◌, List, [], ◌∷◌, map, length, get_or, Option, sym, refl, ap, ◌∙◌, subst, arith}
+use Rattle.algebra.specs.Ring.{RingOps, sub}
 use Rattle.algebra.specs.Field.{FieldLaws, total}
 use Rattle.algebra.specs.Polynomial.{Each, Distinct, eval}
 use Rattle.algebra.specs.Lagrange.{abscissas}
 use Rattle.algebra.proofs.FieldBasics.{division, sub_ne_zero}
 use Rattle.algebra.proofs.Interpolation.{lagrange_list, eval_lagrange, length_lagrange, lagrange_values, lagrange_unique}
-use Rattle.algebra.proofs.RingSolver.{ring, ring_from, shapes, fact, ◌·◌, ◌⊞◌}
+use Rattle.algebra.proofs.RingSolver.{ring_from, shapes, ◌·◌}
 use Rattle.field.specs.Extension.{Extends}
 use Rattle.domain.specs.Periodic.{later, samples, interpolated, Through}
 use Rattle.domain.proofs.Embedding.{keeps_neg}

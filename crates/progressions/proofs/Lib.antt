@@ -1,2 +1,0 @@
-pub mod ProgressionLaws
-pub mod Terms

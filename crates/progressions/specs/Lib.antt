@@ -1,1 +1,3 @@
 pub mod Progression
+pub mod ProgressionLaws
+pub mod Terms

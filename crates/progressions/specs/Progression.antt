@@ -1,5 +1,5 @@
 -- A progression: start + i * step. Assumes nothing.
-use Rattle.std.specs.Prelude.{ℕ, zero, suc, ◌+◌, ◌-◌, ◌*◌, ◌^◌, min, true, false, List, [], ◌∷◌, map, Some, None, Option, ◌==◌, nat_le, nat_lt}
+use Rattle.std.specs.Prelude.{ℕ, zero, suc, ◌+◌, ◌-◌, ◌^◌, min, true, false, List, [], ◌∷◌, map, Some, None, Option, ◌==◌, nat_le, nat_lt}
 use Rattle.algebra.specs.Ring.{RingOps, nat, sub}
 use Rattle.algebra.specs.Field.{total}
 use Rattle.algebra.specs.Lagrange.{basis}

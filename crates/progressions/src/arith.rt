@@ -4,6 +4,7 @@ ghost use Rattle.algebra.specs.Domain.{vanishing};
 ghost use Rattle.algebra.specs.Field.{total};
 ghost use Rattle.algebra.specs.Lagrange.{basis};
 ghost use Rattle.progressions.specs.Progression.{numbers, fitting, placed, natural_of, term as term_at, terms, step_of, bits_of, points_of, first_of, last_of, transition_of, following_of, beside_of, pieces_of};
+ghost use Rattle.progressions.specs.ProgressionLaws.{progression_distinct, progression_doubled, progression_separate, progression_parted, progression_unparted};
 ghost use Rattle.std.proofs.Common.{rules};
 
 use crate::Progression;
@@ -33,7 +34,7 @@ fn most_bits<F: PrimeField>() -> u32
 }
 
 fn log_size<F: PrimeField, E: Copy>(d: Progression<F, E>) -> u32
-    ensures is { result ≡ bits_of (numbers F.Field F.PrimeField) d }
+    ensures is { result ≡ bits_of (numbers F.Field F.PrimeField.own) d }
     ensures small { result ≤ 10 }
 {
     let most = most_bits::<F>();
@@ -41,7 +42,7 @@ fn log_size<F: PrimeField, E: Copy>(d: Progression<F, E>) -> u32
 }
 
 fn count<F: PrimeField, E: Copy>(d: Progression<F, E>) -> u32
-    ensures is { result ≡ 2 ^ bits_of (numbers F.Field F.PrimeField) d }
+    ensures is { result ≡ 2 ^ bits_of (numbers F.Field F.PrimeField.own) d }
     ensures some { 0 < result }
     ensures small { result ≤ 1024 }
 {
@@ -49,7 +50,7 @@ fn count<F: PrimeField, E: Copy>(d: Progression<F, E>) -> u32
 }
 
 fn step<F: PrimeField, E: Copy>(d: Progression<F, E>) -> F
-    ensures { result ≡ step_of (numbers F.Field F.PrimeField) d }
+    ensures { result ≡ step_of (numbers F.Field F.PrimeField.own) d }
 {
     match d.step.inverse() {
         None => F::one(),
@@ -69,8 +70,8 @@ pub fn progression<F: PrimeField, E: Extension<F>>(
     step: F,
     size: usize,
 ) -> Option<Progression<F, E>>
-    ensures value { result ≡ placed (numbers F.Field F.PrimeField) start step size }
-    ensures points { (d : Progression F E) → result ≡ Some d → points_of (numbers F.Field F.PrimeField) d ≡ terms F.Field.ops start step 0 size }
+    ensures value { result ≡ placed (numbers F.Field F.PrimeField.own) start step size }
+    ensures points { (d : Progression F E) → result ≡ Some d → points_of (numbers F.Field F.PrimeField.own) d ≡ terms F.Field.ops start step 0 size }
 {
     checked(start, step, size)
 }
@@ -80,7 +81,7 @@ fn checked<F: PrimeField, E: Extension<F>>(
     step: F,
     size: usize,
 ) -> Option<Progression<F, E>>
-    ensures { result ≡ placed (numbers F.Field F.PrimeField) start step size }
+    ensures { result ≡ placed (numbers F.Field F.PrimeField.own) start step size }
 {
     let _inverse = step.inverse()?;
     let bits = powers::log_within(most_bits::<F>(), size)?;
@@ -94,7 +95,7 @@ fn checked<F: PrimeField, E: Extension<F>>(
 
 // 0, 1, 2 and so on, 2^bits points. Absent where these are more than 1,024 or more than F has.
 pub fn natural<F: PrimeField, E: Extension<F>>(bits: u32) -> Option<Progression<F, E>>
-    ensures { result ≡ natural_of (numbers F.Field F.PrimeField) bits }
+    ensures { result ≡ natural_of (numbers F.Field F.PrimeField.own) bits }
 {
     if bits > most_bits::<F>() {
         return None;
@@ -140,25 +141,35 @@ impl<F: PrimeField, E: Extension<F>> Domain for Progression<F, E> {
 
     type Ext = E;
 
-    ghost points = { points_of (numbers F.Field F.PrimeField) };
+    ghost points = { points_of (numbers F.Field F.PrimeField.own) };
 
     ghost scale = { λ _. F.Field.ops.one };
 
-    ghost first = { first_of (numbers F.Field F.PrimeField) E.Field.ops E.Field.inverted E.Extension.embedded };
+    ghost first = { first_of (numbers F.Field F.PrimeField.own) E.Field.ops E.Field.inverted E.Extension.embedded };
 
-    ghost last = { last_of (numbers F.Field F.PrimeField) E.Field.ops E.Field.inverted E.Extension.embedded };
+    ghost last = { last_of (numbers F.Field F.PrimeField.own) E.Field.ops E.Field.inverted E.Extension.embedded };
 
-    ghost transition = { transition_of (numbers F.Field F.PrimeField) E.Field.ops E.Field.inverted E.Extension.embedded };
+    ghost transition = { transition_of (numbers F.Field F.PrimeField.own) E.Field.ops E.Field.inverted E.Extension.embedded };
 
-    ghost following = { following_of (numbers F.Field F.PrimeField) E.Field.ops E.Field.inverted E.Extension.embedded };
+    ghost following = { following_of (numbers F.Field F.PrimeField.own) E.Field.ops E.Field.inverted E.Extension.embedded };
 
-    ghost beside = { beside_of (numbers F.Field F.PrimeField) };
+    ghost beside = { beside_of (numbers F.Field F.PrimeField.own) };
 
-    ghost pieces = { pieces_of (numbers F.Field F.PrimeField) };
+    ghost pieces = { pieces_of (numbers F.Field F.PrimeField.own) };
 
     ghost degree = { 1 };
 
+    ghost distinct = { progression_distinct (numbers F.Field F.PrimeField.own) F.Field.laws F.PrimeField.numbered F.PrimeField.numbers };
+
+    ghost doubled = { progression_doubled (numbers F.Field F.PrimeField.own) F.Field.laws F.PrimeField.numbered F.PrimeField.numbers };
+
     ghost scaled = { Prim.search rules };
+
+    ghost separate = { progression_separate (numbers F.Field F.PrimeField.own) F.Field.laws F.PrimeField.numbered F.PrimeField.numbers };
+
+    ghost parted = { progression_parted (numbers F.Field F.PrimeField.own) F.Field.laws F.PrimeField.numbered F.PrimeField.numbers };
+
+    ghost unparted = { progression_unparted (numbers F.Field F.PrimeField.own) F.Field.laws F.PrimeField.numbered F.PrimeField.numbers };
 
     fn size(self) -> usize {
         count(self) as usize

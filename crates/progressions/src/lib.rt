@@ -6,6 +6,7 @@ pub mod arith;
 // The points are start + i * step, for i below 2^bits.
 // The constructors refuse a zero step and a size above 1,024 or above F's, and the fields are private, so no caller has such a value.
 // The definitions are total all the same: they read a zero step as one, and a size that is too large as the largest.
+#[derive(Clone, Copy)]
 pub struct Progression<F, E> {
     start: F,
     step: F,
@@ -13,5 +14,3 @@ pub struct Progression<F, E> {
     // None: it only says which field lies above F.
     above: Option<E>,
 }
-
-impl<F: Copy, E: Copy> Copy for Progression<F, E> {}

@@ -44,8 +44,8 @@ fn weighted<F: TwoAdic, E: Extension<F>>(inverse: F, back: F, bits: u32, column:
 // The value at w of the polynomial through a column of as many values as d has points.
 // With x point j and P the size, the polynomial that is 1 at x and 0 at the other points is the sum of the powers of w / x below P, over P.
 fn value_at<F: TwoAdic, E: Extension<F>>(d: Coset<F, E>, column: &[F], w: E) -> E
-    requires { length column.now ≡ 2 ^ bits_of (turns F.Field F.TwoAdic) d }
-    ensures { result ≡ interpolated F.Field.ops.zero E.Extension.embedded E.Field.ops (total E.Field.ops E.Field.inverted) (points_of (turns F.Field F.TwoAdic) d) column.now w }
+    requires { length column.now ≡ 2 ^ bits_of (turns F.Field F.TwoAdic.own) d }
+    ensures { result ≡ interpolated F.Field.ops.zero E.Extension.embedded E.Field.ops (total E.Field.ops E.Field.inverted) (points_of (turns F.Field F.TwoAdic.own) d) column.now w }
 {
     let bits = log_size(d);
     let inverse = powers::inverse_or_zero(shift(d));

@@ -1,4 +1,4 @@
-use Rattle.std.proofs.Common.{◌≡◌, Some, sym, ap, ◌∙◌, ap₂}
+use Rattle.std.proofs.Common.{Some, sym, ap, ◌∙◌}
 use Rattle.algebra.specs.Field.{total}
 use Rattle.cosets.specs.Coset.{turns, first_of, last_of, transition_of}
 use Rattle.cosets.proofs.CosetSelectors.{divided, chosen_is}

@@ -1,4 +1,4 @@
-use Rattle.std.proofs.Common.{◌≡◌, ◌+◌, ◌-◌, ◌%◌, ◌<◌, ◌≤◌, length, get_or, sym, ap, ◌∙◌, ap₂, arith}
+use Rattle.std.proofs.Common.{◌≡◌, ◌+◌, ◌-◌, ◌<◌, length, get_or, ap, ◌∙◌, ap₂, arith}
 use native.Mathlib.Nat.{sub-zero}
 use Rattle.algebra.specs.Field.{total}
 use Rattle.algebra.specs.Lagrange.{basis}

@@ -1,4 +1,4 @@
-use Rattle.std.proofs.Common.{◌≡◌, ℕ, Option, ap, ◌∙◌, arith}
+use Rattle.std.proofs.Common.{ℕ, Option, ap, ◌∙◌, arith}
 use Rattle.domain.specs.Split.{or_else}
 use Rattle.domain.proofs.Fronted.{written}
 use Rattle.domain.proofs.split.fill.Goals as goal

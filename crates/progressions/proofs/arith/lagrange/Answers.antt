@@ -1,9 +1,9 @@
-use Rattle.std.proofs.Common.{◌≡◌, ◌+◌, ◌-◌, map, sym, ap, ◌∙◌, ap₂}
+use Rattle.std.proofs.Common.{◌+◌, ◌-◌, map, sym, ap, ◌∙◌, ap₂}
 use Rattle.algebra.specs.Ring.{sub}
 use Rattle.algebra.specs.Field.{total}
 use Rattle.algebra.specs.Lagrange.{basis}
 use Rattle.progressions.specs.Progression.{terms}
-use Rattle.progressions.proofs.Terms.{basis_next}
+use Rattle.progressions.specs.Terms.{basis_next}
 use Rattle.progressions.proofs.arith.lagrange.Goals as goal
 
 pub loop-j-preserved : goal.loop-j-preserved

@@ -1,8 +1,8 @@
-use Rattle.std.proofs.Common.{◌≡◌, ◌+◌, ◌-◌, map, sym, ap, ◌∙◌}
+use Rattle.std.proofs.Common.{◌+◌, ◌-◌, map, sym, ap, ◌∙◌}
 use Rattle.algebra.specs.Ring.{sub}
 use Rattle.algebra.specs.Domain.{vanishing}
 use Rattle.progressions.specs.Progression.{terms}
-use Rattle.progressions.proofs.Terms.{vanishing_next}
+use Rattle.progressions.specs.Terms.{vanishing_next}
 use Rattle.progressions.proofs.arith.product.Goals as goal
 
 pub loop-j-preserved : goal.loop-j-preserved

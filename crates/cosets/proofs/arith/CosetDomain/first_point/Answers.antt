@@ -1,5 +1,4 @@
-use Rattle.std.proofs.Common.{◌*◌, ◌^◌, sym, ap, ◌∙◌, pow_pos}
-use Rattle.algebra.specs.Ring.{pow}
+use Rattle.std.proofs.Common.{◌^◌, sym, ◌∙◌, pow_pos}
 use Rattle.algebra.proofs.CosetVanishing.{coset_at}
 use Rattle.algebra.proofs.Powers.{pow-zero}
 use Rattle.cosets.specs.Coset.{turns, shift_of, step_of, bits_of}

@@ -1,4 +1,4 @@
-use Rattle.std.proofs.Common.{◌≡◌, suc, sym, ◌∙◌, arith}
+use Rattle.std.proofs.Common.{suc, sym, ◌∙◌, arith}
 use Rattle.domain.proofs.Logs.{log_some}
 use Rattle.cosets.proofs.arith.CosetDomain.piece.Goals as goal
 

@@ -1,11 +1,11 @@
-use Rattle.std.proofs.Common.{◌≡◌, ℕ, ◌*◌, ◌%◌, ◌^◌, ◌<◌, length, get_or, sym, ap, ◌∙◌, ap₂, mod-eq_of_lt, one-mul, arith}
+use Rattle.std.proofs.Common.{◌≡◌, ℕ, ◌*◌, ◌%◌, ◌^◌, ◌<◌, length, get_or, ap, ◌∙◌, ap₂, mod-eq_of_lt, one-mul, arith}
 use lib.Pow.{pow-lt}
 use Rattle.algebra.specs.Field.{total}
 use Rattle.algebra.specs.Ring.{pow, nat}
 use Rattle.cosets.specs.Coset.{turns, bits_of, shift_of, step_of}
 use Rattle.cosets.specs.Sums.{sums, geometric}
 use Rattle.cosets.proofs.CosetBasis.{coset_interpolated}
-use Rattle.cosets.proofs.CosetLaws.{bits_within}
+use Rattle.cosets.specs.CosetLaws.{bits_within}
 use Rattle.cosets.proofs.arith.period.value_at.Goals as goal
 
 pub returns : goal.returns

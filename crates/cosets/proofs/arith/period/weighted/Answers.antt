@@ -1,4 +1,4 @@
-use Rattle.std.proofs.Common.{◌≡◌, ℕ, suc, ◌+◌, ◌^◌, [], ◌∷◌, get_or, sym, ap, ◌∙◌, ap₂, add-one, arith}
+use Rattle.std.proofs.Common.{ℕ, ◌^◌, get_or, sym, ap, ◌∙◌, ap₂, add-one}
 use Rattle.algebra.specs.Ring.{pow}
 use Rattle.algebra.proofs.Powers.{pow-zero}
 use Rattle.cosets.specs.Sums.{sums, geometric}

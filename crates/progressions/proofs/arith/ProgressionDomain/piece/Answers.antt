@@ -1,5 +1,5 @@
-use Rattle.std.proofs.Common.{◌≡◌, suc, ◌<◌, ◌≤◌, sym, ◌∙◌, arith, pow_mono}
-use Rattle.domain.proofs.Logs.{Log, log_some}
+use Rattle.std.proofs.Common.{suc, ◌≤◌, sym, ◌∙◌, arith, pow_mono}
+use Rattle.domain.proofs.Logs.{log_some}
 use Rattle.progressions.proofs.arith.ProgressionDomain.piece.Goals as goal
 
 pub overflow_cast-i : goal.overflow_cast-i

@@ -1,12 +1,12 @@
-use Rattle.std.proofs.Common.{◌≡◌, ◌-◌, ◌^◌, ◌<◌, ◌≤◌, min, Bool, true, false, leb, length, Some, None, Option, sym, ap, ◌∙◌, ap₂, arith, pow_pos, pow_mono, rules, le-leb}
+use Rattle.std.proofs.Common.{◌≡◌, ◌-◌, ◌^◌, ◌<◌, ◌≤◌, min, Bool, true, false, leb, length, Some, None, Option, sym, ap, ◌∙◌, ap₂, arith, pow_mono, rules, le-leb}
 use lib.Pow.{pow-lt}
 use borrow.Author.Tests.{lt-leb}
 use Rattle.algebra.specs.Ring.{pow}
 use Rattle.algebra.specs.Field.{total}
-use Rattle.cosets.specs.Coset.{turns, shift_of, bits_of, points_of, moved}
+use Rattle.cosets.specs.Coset.{turns, bits_of, points_of, moved}
 use Rattle.domain.specs.Logarithm.{log_within}
 use Rattle.domain.specs.Periodic.{interpolated, periodic_by}
-use Rattle.cosets.proofs.CosetLaws.{bits_within, coset_length, coset_points_distinct}
+use Rattle.cosets.specs.CosetLaws.{bits_within, coset_length, coset_points_distinct}
 use Rattle.cosets.proofs.CosetPeriod.{period_value}
 use Rattle.domain.proofs.Logs.{log_some}
 use Rattle.domain.proofs.Through.{through}

@@ -1,5 +1,5 @@
 -- Progressions keep the laws of a domain. Assumes nothing.
-use Rattle.std.proofs.Common.{◌≡◌, ℕ, zero, suc, ◌+◌, ◌-◌, ◌*◌, ◌/◌, ◌%◌, ◌^◌, ◌<◌, ◌≤◌, Bool, true, false, ltb, leb, ◌≢◌, List, [], ◌∷◌, length, get_or, Some, None, Option, sym, refl, ap, ◌∙◌, subst, ap₂, le_refl, mul_comm, mul-le-mul, zero-add, mul-suc, arith, pow_pos, pow_mono, pow-add as power_add, ltb-true, lt-ltb, leb-true}
+use Rattle.std.proofs.Common.{◌≡◌, ℕ, suc, ◌+◌, ◌-◌, ◌*◌, ◌/◌, ◌%◌, ◌^◌, ◌<◌, ◌≤◌, Bool, true, false, ltb, leb, ◌≢◌, List, length, get_or, Some, None, Option, sym, refl, ap, ◌∙◌, subst, ap₂, le_refl, mul_comm, mul-le-mul, zero-add, mul-suc, arith, pow_pos, pow_mono, pow-add as power_add, ltb-true, lt-ltb, leb-true}
 use native.Mathlib.Nat.{div-add-mod}
 use native.Mathlib.Decide.{dec_lt}
 use lib.Pow.{pow-lt}
@@ -17,7 +17,7 @@ use Rattle.progressions.specs.Progression.{Numbers, fitting, term, terms, step_o
 use Rattle.domain.specs.Logarithm.{log_within}
 use Rattle.domain.specs.Pieces.{PowerOfTwo, PieceOf}
 use Rattle.domain.proofs.Logs.{log_some, log_none, divisor}
-use Rattle.progressions.proofs.Terms.{length_terms, term_at, fitting_within, fitting_fits, fitting_keeps, terms_later, term_piece, times_none, nat_nonzero, terms_distinct, terms_apart}
+use Rattle.progressions.specs.Terms.{length_terms, term_at, fitting_within, fitting_fits, fitting_keeps, terms_later, term_piece, times_none, nat_nonzero, terms_distinct, terms_apart}
 
 module _ {F : Type 0} (t : Numbers F) (laws : FieldLaws t.ops t.inverse) (numbered : F → ℕ) (named : Numbered t.ops t.modulus numbered) where
   open t use {ops, inverse, modulus}

@@ -1,17 +1,16 @@
 -- Cosets keep the laws of a domain. Assumes nothing.
-use Rattle.std.proofs.Common.{◌≡◌, ℕ, zero, suc, ◌+◌, ◌-◌, ◌*◌, ◌/◌, ◌%◌, ◌^◌, ◌<◌, ◌≤◌, Bool, true, false, ltb, leb, ◌≢◌, List, [], ◌∷◌, length, get_or, Some, None, Option, sym, refl, ap, ◌∙◌, subst, ap₂, le_refl, mul_assoc, mul_comm, mul-le-mul, zero-add, mul-suc, mul-add, arith, pow-add as power_add, ltb-true, lt-ltb, leb-true}
+use Rattle.std.proofs.Common.{◌≡◌, ℕ, suc, ◌+◌, ◌-◌, ◌*◌, ◌/◌, ◌%◌, ◌^◌, ◌<◌, ◌≤◌, Bool, true, false, ltb, leb, ◌≢◌, List, [], ◌∷◌, length, get_or, Some, None, Option, sym, refl, ap, ◌∙◌, subst, ap₂, le_refl, mul_comm, mul-le-mul, zero-add, mul-suc, arith, pow-add as power_add, ltb-true, lt-ltb, leb-true}
 use native.Mathlib.Nat.{div-add-mod}
 use borrow.Author.Tests.{both_ways}
-use Rattle.algebra.specs.Ring.{RingLaws, pow, sub}
-use Rattle.algebra.specs.Field.{FieldLaws, total, or_zero}
+use Rattle.algebra.specs.Ring.{pow}
+use Rattle.algebra.specs.Field.{FieldLaws, total}
 use Rattle.algebra.specs.Polynomial.{Distinct}
-use Rattle.algebra.specs.Domain.{Apart, HalfTurn, coset}
+use Rattle.algebra.specs.Domain.{Apart, coset}
 use Rattle.algebra.proofs.FieldBasics.{division, zero_of_product}
-use Rattle.algebra.proofs.Powers.{pow-add, pow_one}
-use Rattle.algebra.proofs.CosetProduct.{double}
+use Rattle.algebra.proofs.Powers.{pow-add}
 use Rattle.algebra.proofs.CosetVanishing.{length_coset_from, coset_at, pow_pow, pow_ne_zero, cosets_apart}
 use Rattle.algebra.proofs.DomainLaws.{coset_distinct}
-use Rattle.algebra.proofs.RingSolver.{ring, ring_from, shapes, fact, ◌·◌, ◌⊞◌}
+use Rattle.algebra.proofs.RingSolver.{ring_from, shapes, fact, ◌·◌, ◌⊞◌}
 use Rattle.field.specs.TwoAdic.{TwoAdicLaws, root}
 use Rattle.field.proofs.RootOrder.{root_power, root_turn, root_whole}
 use Rattle.cosets.specs.declared.Coset.{Coset}
