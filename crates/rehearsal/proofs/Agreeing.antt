@@ -69,7 +69,7 @@ module _ {S E : Type 0} (st : Steps S) (dr : Draws E) (sh : StarkShape) (s₀ : 
   constrains_kept x (stopped f t) k = k
   constrains_kept x (halted x' a f t) k = k
 
-  -- the out_of_domain phase keeps it
+  -- the out-of-domain phase keeps it
   point : (q : ℕ) (r : Option ℕ) (w : ℕ) (x : First) (s : S) → random_fault sh r ≡ None → accepted st sh.ood_pow_bits (committed st sh q r s) w ≡ true → s ≡ after_alpha x → SecondOk x (record { quotient = q; random = r; witness = w }) (challenge st dr (tested st dr sh q r s w)) (drawn st dr (tested st dr sh q r s w))
   point q r w x s ef passed e = record {
     placed = ef;

@@ -1,4 +1,4 @@
--- The out_of_domain request of a driven prover. Assumes nothing.
+-- The out-of-domain request of a driven prover. Assumes nothing.
 use Rattle.std.proofs.Common.{◌≡◌, ℕ, Ok, Err, Option, Result, refl, ap, ◌∙◌, ap₂, arith}
 use Rattle.sponge.specs.Steps.{Steps}
 use Rattle.transcript.specs.Takes.{Draws}
