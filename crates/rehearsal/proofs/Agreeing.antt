@@ -6,7 +6,7 @@ use Rattle.transcript.specs.declared.failure.StarkTranscriptFailure.{StarkTransc
 use Rattle.transcript.specs.Takes.{Draws, takes, commit, challenge, drawn}
 use Rattle.transcript.specs.Seed.{seed}
 use Rattle.transcript.specs.Phases.{least, preprocessed_fault, random_fault, constraint_outcome, constraint_sponge, prover_outcome, prover_sponge, verifier_outcome, verifier_sponge, accepted, tried, bound, committed, tested, witnessed}
-use Rattle.transcript.specs.Schedule.{First, Second, schedule_alpha, schedule_zeta}
+use Rattle.transcript.specs.Schedule.{First, Second}
 use Rattle.transcript.proofs.Least.{least_passes}
 use Rattle.transcript.proofs.Scheduled.{alpha_scheduled, zeta_scheduled}
 use Rattle.rehearsal.specs.Runs.{Role, prover, verifier, Call, constraint, out_of_domain, opening, closing, finish, Bracket, closes, finishes, opens, goes_on, Stand, start, mid, ready, bracketed, stopped, halted, after_constraint, after_proving, after_checking, constrains, leaves_domain, call, calls, run}
@@ -69,7 +69,7 @@ module _ {S E : Type 0} (st : Steps S) (dr : Draws E) (sh : StarkShape) (s₀ : 
   constrains_kept x (stopped f t) k = k
   constrains_kept x (halted x' a f t) k = k
 
-  -- the out_of_domain phase keeps it
+  -- the out-of-domain phase keeps it
   point : (q : ℕ) (r : Option ℕ) (w : ℕ) (x : First) (s : S) → random_fault sh r ≡ None → accepted st sh.ood_pow_bits (committed st sh q r s) w ≡ true → s ≡ after_alpha x → SecondOk x (record { quotient = q; random = r; witness = w }) (challenge st dr (tested st dr sh q r s w)) (drawn st dr (tested st dr sh q r s w))
   point q r w x s ef passed e = record {
     placed = ef;

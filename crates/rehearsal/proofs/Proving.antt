@@ -1,4 +1,4 @@
--- The out_of_domain request of a driven prover. Assumes nothing.
+-- The out-of-domain request of a driven prover. Assumes nothing.
 use Rattle.std.proofs.Common.{◌≡◌, ℕ, Ok, Err, Option, Result, refl, ap, ◌∙◌, ap₂, arith}
 use Rattle.sponge.specs.Steps.{Steps}
 use Rattle.transcript.specs.Takes.{Draws}
@@ -13,7 +13,7 @@ use Rattle.ends.specs.declared.prover.ProverZeta.{ProverZeta}
 use Rattle.ends.specs.declared.prover.ProverZeta.TheVariants as Z
 use Rattle.rehearsal.specs.declared.prover_run.ProverRun.{ProverRun}
 use Rattle.rehearsal.specs.declared.prover_run.ProverRun.TheVariants as P
-use Rattle.rehearsal.specs.Runs.{prover, Stand, start, mid, ready, bracketed, opened, closed, finished, stopped, halted, sponge_of, after_proving, out_of_domain}
+use Rattle.rehearsal.specs.Runs.{prover, start, mid, ready, bracketed, opened, closed, finished, stopped, halted, sponge_of, after_proving, out_of_domain}
 use Rattle.rehearsal.specs.Driven.{prover_seen, Goes}
 
 abbrev pub run_after : {E : Type 0} → E → ProverZeta E → ProverRun E

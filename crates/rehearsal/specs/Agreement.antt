@@ -17,7 +17,7 @@ PassedFirst (bracketed x' a' y' z' s b) x a = (x' ≡ x) × (a' ≡ a)
 PassedFirst (stopped f s) x a = ⊥
 PassedFirst (halted x' a' f s) x a = (x' ≡ x) × (a' ≡ a)
 
--- the end passed its out_of_domain phase on y, drew zeta, and opens, or opened, the bracket on the sponge o
+-- the end passed its out-of-domain phase on y, drew zeta, and opens, or opened, the bracket on the sponge o
 abbrev pub PassedSecond : {S E : Type 0} → Stand S E → Second → E → S → Type 0
 PassedSecond (start s) y z o = ⊥
 PassedSecond (mid x' a' s) y z o = ⊥
@@ -33,7 +33,7 @@ pub record Agree {S E : Type 0} (st : Steps S) (dr : Draws E) (sh : StarkShape) 
   pub zeta : (x : First) (a : E) (y : Second) (z : E) (o : S) → PassedFirst p x a → PassedSecond p y z o → z ≡ schedule_zeta st dr sh x y s
   -- a verifier that has passed no phase passes the constraint phase on what the prover sent there, and draws its alpha
   pub at_alpha : (x : First) (a : E) (t : S) → PassedFirst p x a → v ≡ start t → (u : S) × (call st dr sh verifier (constraint x) v ≡ mid x a u)
-  -- one that has passed it on what the prover sent passes the out_of_domain phase too, draws its zeta, and opens the bracket on its sponge
+  -- one that has passed it on what the prover sent passes the out-of-domain phase too, draws its zeta, and opens the bracket on its sponge
   pub at_zeta : (x : First) (a b : E) (y : Second) (z : E) (o t : S) → PassedFirst p x a → PassedSecond p y z o → v ≡ mid x b t → call st dr sh verifier (out_of_domain y.quotient y.random y.witness) v ≡ ready x a y z o
   -- one that has passed both on what the prover sent drew its challenges, and opens, or opened, the bracket on its sponge
   pub at_bracket : (x : First) (a b : E) (y : Second) (z w : E) (o u : S) → PassedFirst p x a → PassedSecond p y z o → PassedFirst v x b → PassedSecond v y w u → (a ≡ b) × (z ≡ w) × (o ≡ u)

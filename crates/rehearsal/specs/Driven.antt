@@ -5,7 +5,7 @@ use Rattle.transcript.specs.Takes.{Draws}
 use Rattle.transcript.specs.Schedule.{first}
 use Rattle.transcript.specs.declared.shape.StarkShape.{StarkShape}
 use Rattle.rehearsal.specs.Parts.{part}
-use Rattle.rehearsal.specs.Runs.{Role, prover, verifier, Call, constraint, out_of_domain, opening, closing, finish, Bracket, opened, closed, finished, Stand, start, mid, ready, bracketed, stopped, halted, sponge_of, call}
+use Rattle.rehearsal.specs.Runs.{Role, Call, constraint, out_of_domain, opening, closing, finish, Bracket, opened, closed, finished, Stand, start, mid, ready, bracketed, stopped, halted, sponge_of, call}
 use Rattle.rehearsal.specs.declared.request.Request.{Request}
 use Rattle.rehearsal.specs.declared.request.Request.TheVariants as R
 use Rattle.rehearsal.specs.declared.standing.Standing.{Standing}

@@ -15,7 +15,7 @@ pub data Role : Type 0 where
   prover : Role
   verifier : Role
 
--- the calls of an end, with what a caller gives; the out_of_domain phase is given a prover's budget or a verifier's witness last
+-- the calls of an end, with what a caller gives; the out-of-domain phase is given a prover's budget or a verifier's witness last
 pub data Call : Type 0 where
   constraint : First → Call
   out_of_domain : ℕ → Option ℕ → ℕ → Call
@@ -30,7 +30,7 @@ pub data Bracket : Type 0 where
   finished : Bracket
 
 -- where an end stands, with what it passed its phases on, the challenges that it drew, and its sponge;
--- `stopped` is ended by the constraint phase, `halted` by the out_of_domain phase
+-- `stopped` is ended by the constraint phase, `halted` by the out-of-domain phase
 pub data Stand (S E : Type 0) : Type 0 where
   start : S → Stand S E
   mid : First → E → S → Stand S E
@@ -100,7 +100,7 @@ module _ {S E : Type 0} (st : Steps S) (dr : Draws E) (sh : StarkShape) where
   constrains x (stopped f s) = stopped f s
   constrains x (halted x' a f s) = halted x' a f s
 
-  -- the out_of_domain phase of a prover with a budget n, and of a verifier with a witness n
+  -- the out-of-domain phase of a prover with a budget n, and of a verifier with a witness n
   abbrev pub leaves_domain : Role → ℕ → Option ℕ → ℕ → Stand S E → Stand S E
   leaves_domain role q r n (start s) = start s
   leaves_domain prover q r n (mid x a s) = after_proving x a q r (prover_answer st dr sh q r n s) (prover_left st dr sh q r n s)

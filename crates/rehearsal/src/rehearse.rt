@@ -13,12 +13,11 @@ use field::traits::PrimeField;
 use sponge::Sponge;
 use transcript::shape::StarkShape;
 
+#[derive(Clone, Copy)]
 pub struct Rehearsal<E> {
     pub prover: Standing<E>,
     pub verifier: Standing<E>,
 }
-
-impl<E: Copy> Copy for Rehearsal<E> {}
 
 // Drives a new prover's end and a new verifier's end of one shape, each over its own requests and its own sponge.
 // A request that an end's state does not allow changes nothing.

@@ -1,6 +1,7 @@
 // How far an end came, with the challenges that it drew and the witness.
 use transcript::failure::StarkTranscriptFailure;
 
+#[derive(Clone, Copy)]
 pub enum Standing<E> {
     Start,
     Mid(E),
@@ -10,5 +11,3 @@ pub enum Standing<E> {
     Done(E, E, u32),
     Ended(StarkTranscriptFailure),
 }
-
-impl<E: Copy> Copy for Standing<E> {}

@@ -181,8 +181,8 @@ pub(crate) fn drive_verifier<S: Sponge, F: PrimeField, E: Extension<F>>(
     requests: &[Request],
     values: &[F],
 ) -> Standing<E>
-    ensures run { result ≡ standing (run_of steps (over modulus E.Field.ops dim basis) shape verifier sponge.old (map (meant numbered values.now) requests.now)) }
-    ensures left { sponge.new ≡ sponge_of (run_of steps (over modulus E.Field.ops dim basis) shape verifier sponge.old (map (meant numbered values.now) requests.now)) }
+    ensures run { result ≡ standing (run_of S.steps (over F.modulus E.Field.ops E.dim E.basis) shape verifier sponge.old (map (meant F.numbered values.now) requests.now)) }
+    ensures left { sponge.new ≡ sponge_of (run_of S.steps (over F.modulus E.Field.ops E.dim E.basis) shape verifier sponge.old (map (meant F.numbered values.now) requests.now)) }
 {
     let mut run = VerifierRun::Start(VerifierStart::new(sponge, shape));
     for request in requests {

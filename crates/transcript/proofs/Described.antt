@@ -1,5 +1,5 @@
 -- The description taken step by step. Assumes nothing.
-use Rattle.std.proofs.Common.{◌≡◌, ℕ, ◌+◌, ◌*◌, ◌≤◌, Bool, true, false, cond, eqb, ltb, List, [], ◌∷◌, ◌++◌, length, sym, refl, ap, ◌∙◌, arith}
+use Rattle.std.proofs.Common.{◌≡◌, ℕ, ◌+◌, ◌*◌, ◌≤◌, Bool, true, false, cond, eqb, ltb, List, [], ◌∷◌, ◌++◌, length, sym, refl, arith}
 use mir.Val.{bool_byte}
 use Rattle.sponge.specs.Steps.{Steps}
 use Rattle.transcript.specs.declared.shape.StarkShape.{StarkShape}

@@ -1,5 +1,5 @@
 -- A challenge made word by word. Assumes nothing.
-use Rattle.std.proofs.Common.{◌≡◌, ℕ, zero, suc, ◌+◌, ◌%◌, List, [], ◌∷◌, ◌++◌, map, length, sym, refl, ap, ◌∙◌, ap₂, add-one, arith}
+use Rattle.std.proofs.Common.{◌≡◌, ℕ, zero, suc, ◌+◌, ◌%◌, List, [], ◌∷◌, ◌++◌, map, length, sym, refl, ap, ◌∙◌, add-one, arith}
 use Rattle.algebra.specs.Ring.{RingOps, RingLaws, nat}
 use Rattle.field.specs.Extension.{combined_from}
 use Rattle.sponge.specs.Steps.{Steps}

@@ -50,7 +50,7 @@ constraint_sponge false f same ended passed = same
 constraint_sponge true (Some f) same ended passed = ended
 constraint_sponge true None same ended passed = passed
 
--- the out_of_domain phase of a prover: first the random commitment, then the witness
+-- the out-of-domain phase of a prover: first the random commitment, then the witness
 abbrev pub prover_outcome : {E : Type 0} → Option StarkTranscriptFailure → Option ℕ → (ℕ → E) → (ℕ → ℕ) → Result (OodDraw E) StarkTranscriptFailure
 prover_outcome (Some f) o zeta tried = Err f
 prover_outcome None None zeta tried = Err GrindBudgetSpent

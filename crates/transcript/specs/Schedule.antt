@@ -14,7 +14,7 @@ pub record First : Type 0 where
 abbrev pub first : ℕ → Option ℕ → List ℕ → First
 first t p xs = record { trace = t; preprocessed = p; public = xs }
 
--- what is sent in the out_of_domain phase
+-- what is sent in the out-of-domain phase
 pub record Second : Type 0 where
   pub quotient : ℕ
   pub random : Option ℕ

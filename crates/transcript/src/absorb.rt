@@ -7,7 +7,7 @@ use sponge::Sponge;
 
 // Two halves, the high one first.
 pub(crate) fn take_commitment<S: Sponge>(sponge: &mut S, commitment: u64)
-    ensures { sponge.new ≡ commit steps commitment sponge.old }
+    ensures { sponge.new ≡ commit S.steps commitment sponge.old }
 {
     sponge.take((commitment >> 32) as u32);
     sponge.take((commitment % 4294967296) as u32);
@@ -15,7 +15,7 @@ pub(crate) fn take_commitment<S: Sponge>(sponge: &mut S, commitment: u64)
 
 // Eight bytes, big-endian.
 pub(crate) fn take_number<S: Sponge>(sponge: &mut S, n: u64)
-    ensures { sponge.new ≡ takes steps (be8 n) sponge.old }
+    ensures { sponge.new ≡ takes S.steps (be8 n) sponge.old }
 {
     sponge.take((n >> 56) as u32 % 256);
     sponge.take(((n >> 48) % 256) as u32);
@@ -28,7 +28,7 @@ pub(crate) fn take_number<S: Sponge>(sponge: &mut S, n: u64)
 }
 
 pub(crate) fn take_bytes<S: Sponge>(sponge: &mut S, bytes: &[u8])
-    ensures { sponge.new ≡ takes steps bytes.now sponge.old }
+    ensures { sponge.new ≡ takes S.steps bytes.now sponge.old }
 {
     for b in bytes {
         sponge.take(u32::from(*b));
@@ -37,7 +37,7 @@ pub(crate) fn take_bytes<S: Sponge>(sponge: &mut S, bytes: &[u8])
 
 // Each element by its number.
 pub(crate) fn take_values<S: Sponge, F: PrimeField>(sponge: &mut S, values: &[F])
-    ensures { sponge.new ≡ takes steps (map numbered values.now) sponge.old }
+    ensures { sponge.new ≡ takes S.steps (map F.numbered values.now) sponge.old }
 {
     for x in values {
         sponge.take(x.number());

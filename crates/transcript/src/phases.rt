@@ -14,22 +14,20 @@ use field::traits::{Field, PrimeField};
 use sponge::Sponge;
 
 // Alpha, or a refusal that leaves the run as it was, or one that ends it.
+#[derive(Clone, Copy)]
 pub enum ConstraintOutcome<E> {
     Passed(E),
     Refused(StarkTranscriptFailure),
     Ended(StarkTranscriptFailure),
 }
 
-impl<E: Copy> Copy for ConstraintOutcome<E> {}
-
 // Zeta, with the witness that a prover found and the numbers that it tried.
+#[derive(Clone, Copy)]
 pub struct OodDraw<E> {
     pub zeta: E,
     pub witness: u32,
     pub tries: u32,
 }
-
-impl<E: Copy> Copy for OodDraw<E> {}
 
 // A commitment that the run may describe.
 fn take_optional<S: Sponge>(

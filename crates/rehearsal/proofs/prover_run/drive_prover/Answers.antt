@@ -4,7 +4,7 @@ use Rattle.transcript.specs.Seed.{seed}
 use Rattle.rehearsal.specs.declared.request.Request.TheVariants.{Constraint}
 use Rattle.rehearsal.specs.declared.prover_run.ProverRun.TheVariants.{Start}
 use Rattle.rehearsal.specs.Runs.{prover, start, sponge_of, calls}
-use Rattle.rehearsal.specs.Driven.{meant, standing, prover_seen, prover_shows}
+use Rattle.rehearsal.specs.Driven.{meant, prover_seen, prover_shows}
 use Rattle.rehearsal.proofs.Driving.{went_on, prover_shown}
 use Rattle.rehearsal.proofs.prover_run.drive_prover.Goals as goal
 

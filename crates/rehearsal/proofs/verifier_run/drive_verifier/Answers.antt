@@ -4,7 +4,7 @@ use Rattle.transcript.specs.Seed.{seed}
 use Rattle.rehearsal.specs.declared.request.Request.TheVariants.{Constraint}
 use Rattle.rehearsal.specs.declared.verifier_run.VerifierRun.TheVariants.{Start}
 use Rattle.rehearsal.specs.Runs.{verifier, start, sponge_of, calls}
-use Rattle.rehearsal.specs.Driven.{meant, standing, verifier_seen, verifier_shows}
+use Rattle.rehearsal.specs.Driven.{meant, verifier_seen, verifier_shows}
 use Rattle.rehearsal.proofs.Driving.{went_on, verifier_shown}
 use Rattle.rehearsal.proofs.verifier_run.drive_verifier.Goals as goal
 

@@ -1,4 +1,4 @@
-use Rattle.std.proofs.Common.{sym, ap, ◌∙◌, arith, take_all}
+use Rattle.std.proofs.Common.{ap, ◌∙◌, arith, take_all}
 use Rattle.transcript.specs.Takes.{takes}
 use Rattle.transcript.proofs.Taking.{takes_byte}
 use Rattle.transcript.proofs.absorb.take_bytes.Goals as goal

@@ -1,4 +1,4 @@
-use Rattle.std.proofs.Common.{map, sym, ap, ◌∙◌, arith, take_all}
+use Rattle.std.proofs.Common.{map, ap, ◌∙◌, arith, take_all}
 use Rattle.transcript.specs.Takes.{takes}
 use Rattle.transcript.proofs.Taking.{takes_more}
 use Rattle.transcript.proofs.absorb.take_values.Goals as goal

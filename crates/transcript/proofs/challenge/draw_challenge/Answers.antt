@@ -1,4 +1,4 @@
-use Rattle.std.proofs.Common.{◌≡◌, ◌%◌, ◌<◌, sym, ap, ◌∙◌, ap₂, add-one, arith}
+use Rattle.std.proofs.Common.{◌≡◌, ◌%◌, sym, ap, ◌∙◌, ap₂, add-one, arith}
 use Rattle.algebra.specs.Ring.{nat}
 use Rattle.transcript.specs.Takes.{after, words, over}
 use Rattle.transcript.proofs.Drawing.{one_more}

@@ -1,4 +1,4 @@
-use Rattle.std.proofs.Common.{◌≡◌, ◌≤◌, map}
+use Rattle.std.proofs.Common.{◌≡◌, ◌≤◌}
 use Rattle.transcript.specs.Takes.{after, words, over}
 use Rattle.transcript.proofs.challenge.draw_challenge.Given as goal
 

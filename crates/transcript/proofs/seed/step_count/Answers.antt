@@ -1,4 +1,4 @@
-use Rattle.std.proofs.Common.{◌≡◌, ◌+◌, ◌*◌, ◌≤◌, ltb, length, sym, ap, ◌∙◌}
+use Rattle.std.proofs.Common.{◌≡◌, ◌+◌, ◌*◌, ltb, length, sym, ap, ◌∙◌}
 use Rattle.transcript.specs.Seed.{codes}
 use Rattle.transcript.proofs.Described.{lengths, steps_count, at_most_ten}
 use Rattle.transcript.proofs.seed.step_count.Goals as goal

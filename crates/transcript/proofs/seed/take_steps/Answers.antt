@@ -1,6 +1,4 @@
-use Rattle.std.proofs.Common.{ltb, ap, ◌∙◌}
-use Rattle.transcript.specs.Takes.{takes}
-use Rattle.transcript.specs.Seed.{part}
+use Rattle.std.proofs.Common.{ltb}
 use Rattle.transcript.proofs.Described.{described}
 use Rattle.transcript.proofs.seed.take_steps.Goals as goal
 
