@@ -6,6 +6,7 @@ mod risen;
 mod stood;
 mod walked;
 
+use anyhow::anyhow;
 use bench_list::list;
 use bench_list::list::ListFault;
 use field::traits::PrimeField;
@@ -23,7 +24,7 @@ fn run(rt: &HostRuntime) -> anyhow::Result<()> {
     let mut places = [0u32; 64];
     match list::read_list(&text, &mut places) {
         Ok(count) => tell(rt, &places[0..count]),
-        Err(fault) => Err(told(rt, fault)?.into()),
+        Err(fault) => Err(anyhow!(told(rt, fault)?)),
     }
 }
 
