@@ -132,10 +132,16 @@ mod tests {
 
     #[test]
     fn a_field_over_itself(rt: HostRuntime) {
-        assert_eq!(rt; number(OverItself::<Seventeen>::from_words(&[40])), Some(6));
-        assert_eq!(rt; number(OverItself::<Seventeen>::from_words(&[])), None);
         assert_eq!(rt;
-            number(OverItself::<Seventeen>::combine(&[Seventeen::from_u32(9)])),
+            number(<Seventeen as Extension<Seventeen>>::from_words(&[40])),
+            Some(6)
+        );
+        assert_eq!(rt;
+            number(<Seventeen as Extension<Seventeen>>::from_words(&[])),
+            None
+        );
+        assert_eq!(rt;
+            number(<Seventeen as Extension<Seventeen>>::combine(&[Seventeen::from_u32(9)])),
             Some(9)
         );
     }
