@@ -1,4 +1,4 @@
-use Rattle.std.proofs.Common.{◌≡◌, Bool, true, false, cond, Ok, Err, Result, ◌∙◌}
+use Rattle.std.proofs.Common.{◌≡◌, Bool, true, false, cond, Ok, Err, ◌∙◌}
 use Rattle.residue.specs.declared.Residue.{Residue}
 use Rattle.air.specs.declared.opened.AirInputsTooShort.{AirInputsTooShort}
 use Rattle.examples.proofs.Folded.{folds_to_four}
