@@ -1,8 +1,8 @@
 // Worked examples of the library: theorems, and tests that are run.
 #![tactic(auto)]
 
-mod airs;
 pub mod domains;
 mod fields;
 mod lists;
-mod transcript;
+mod worked_airs;
+mod worked_transcript;

@@ -1,5 +1,5 @@
 use lib.Count.{count_leading_zeros}
-use Rattle.examples.proofs.airs.most_chunks.Goals as goal
+use Rattle.examples.proofs.worked_airs.most_chunks.Goals as goal
 
 pub returns : goal.returns
 unfolding count_leading_zeros
