@@ -16,7 +16,7 @@ use Rattle.field.proofs.RootOrder.{root_whole}
 use Rattle.cosets.specs.declared.Coset.{Coset}
 use Rattle.cosets.specs.Coset.{Turns, shift_of, bits_of, step_of, points_of}
 use Rattle.cosets.specs.Sums.{sums, geometric}
-use Rattle.cosets.specs.CosetLaws.{shift_nonzero, step_nonzero, bits_within, coset_length, coset_points_distinct}
+use Rattle.cosets.specs.Laws.Coset.{shift_nonzero, step_nonzero, bits_within, coset_length, coset_points_distinct}
 use Rattle.cosets.proofs.Geometric.{geometric_times, geometric_one, powers_list, length_powers, eval_powers, sums_same, sums_one, sum_list, eval_sums, length_sums}
 use Rattle.domain.specs.Periodic.{interpolated}
 use Rattle.domain.proofs.Embedding.{keeps_zero}

@@ -17,7 +17,7 @@ use Rattle.field.proofs.RootOrder.{root_power, root_whole}
 use Rattle.cosets.specs.declared.Coset.{Coset}
 use Rattle.cosets.specs.Coset.{Turns, shift_of, bits_of, step_of, points_of, moved}
 use Rattle.domain.specs.Periodic.{samples, interpolated}
-use Rattle.cosets.specs.CosetLaws.{shift_nonzero, bits_within, coset_length, coset_points_distinct, moved_points}
+use Rattle.cosets.specs.Laws.Coset.{shift_nonzero, bits_within, coset_length, coset_points_distinct, moved_points}
 use Rattle.domain.proofs.Embedding.{keeps_pow}
 use Rattle.cosets.proofs.Spread.{spread, eval_spread, length_spread}
 use Rattle.domain.proofs.Through.{length_samples, takes, through}

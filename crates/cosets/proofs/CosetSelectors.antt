@@ -11,7 +11,7 @@ use Rattle.field.specs.TwoAdic.{TwoAdicLaws}
 use Rattle.field.proofs.RootOrder.{root_whole}
 use Rattle.cosets.specs.declared.Coset.{Coset}
 use Rattle.cosets.specs.Coset.{Turns, bits_of, step_of, turned_of, vanish_of, first_of, last_of, transition_of, Divided}
-use Rattle.cosets.specs.CosetLaws.{step_nonzero, bits_within}
+use Rattle.cosets.specs.Laws.Coset.{step_nonzero, bits_within}
 use Rattle.domain.specs.declared.selectors.Selectors.{Selectors}
 use Rattle.domain.specs.Selected.{selected}
 use Rattle.domain.proofs.Embedding.{keeps_pow}

@@ -13,7 +13,7 @@ use Rattle.field.proofs.RootOrder.{root_turn}
 use Rattle.cosets.specs.declared.Coset.{Coset}
 use Rattle.cosets.specs.Coset.{Turns, shift_of, bits_of, step_of, points_of, scale_of, vanish_of}
 use Rattle.domain.specs.Selected.{vanishing_at}
-use Rattle.cosets.specs.CosetLaws.{shift_nonzero, bits_within}
+use Rattle.cosets.specs.Laws.Coset.{shift_nonzero, bits_within}
 use Rattle.domain.proofs.Embedding.{keeps_pow, keeps_turn, keeps_coset}
 
 module _ {F E : Type 0} (t : Turns F) (laws : FieldLaws t.ops t.inverse) (adic : TwoAdicLaws t.ops t.generator t.odd t.most t.apart)

@@ -1,3 +1,3 @@
 pub mod Coset
-pub mod CosetLaws
+pub mod Laws
 pub mod Sums

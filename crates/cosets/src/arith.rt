@@ -8,7 +8,7 @@ ghost use Rattle.algebra.specs.Field.{total};
 ghost use Rattle.algebra.specs.Ring.{sub};
 ghost use Rattle.domain.specs.Selected.{selected};
 ghost use Rattle.field.specs.TwoAdic.{root};
-ghost use Rattle.cosets.specs.CosetLaws.{coset_points_distinct, coset_doubled, coset_scaled, coset_separate, coset_parted, coset_unparted};
+ghost use Rattle.cosets.specs.Laws.Coset.{coset_points_distinct, coset_doubled, coset_scaled, coset_separate, coset_parted, coset_unparted};
 
 use crate::Coset;
 use domain::powers;

@@ -1,3 +1,2 @@
+pub mod Laws
 pub mod Progression
-pub mod ProgressionLaws
-pub mod Terms

@@ -4,7 +4,7 @@ ghost use Rattle.algebra.specs.Domain.{vanishing};
 ghost use Rattle.algebra.specs.Field.{total};
 ghost use Rattle.algebra.specs.Lagrange.{basis};
 ghost use Rattle.progressions.specs.Progression.{numbers, fitting, placed, natural_of, term as term_at, terms, step_of, bits_of, points_of, first_of, last_of, transition_of, following_of, beside_of, pieces_of};
-ghost use Rattle.progressions.specs.ProgressionLaws.{progression_distinct, progression_doubled, progression_separate, progression_parted, progression_unparted};
+ghost use Rattle.progressions.specs.Laws.Progression.{progression_distinct, progression_doubled, progression_separate, progression_parted, progression_unparted};
 ghost use Rattle.std.proofs.Common.{rules};
 
 use crate::Progression;

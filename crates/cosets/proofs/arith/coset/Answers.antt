@@ -1,6 +1,6 @@
 use Rattle.std.proofs.Common.{sym, ◌∙◌}
 use Rattle.cosets.specs.Coset.{turns}
-use Rattle.cosets.specs.CosetLaws.{placed_points}
+use Rattle.cosets.specs.Laws.Coset.{placed_points}
 use Rattle.cosets.proofs.arith.coset.Goals as goal
 
 pub returns : goal.returns

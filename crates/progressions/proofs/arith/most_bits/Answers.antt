@@ -1,5 +1,5 @@
 use Rattle.std.proofs.Common.{◌/◌, ◌<◌, sym, ap, ◌∙◌, arith}
-use Rattle.progressions.specs.Terms.{fitting_none, fitting_some, fitting_less, half_power}
+use Rattle.progressions.specs.Laws.Terms.{fitting_none, fitting_some, fitting_less, half_power}
 use Rattle.progressions.proofs.arith.most_bits.Goals as goal
 
 pub returns-then-size-order : goal.returns-then-size-order

@@ -1,6 +1,6 @@
 use Rattle.std.proofs.Common.{sym, ◌∙◌}
 use Rattle.progressions.specs.Progression.{numbers}
-use Rattle.progressions.specs.ProgressionLaws.{placed_points}
+use Rattle.progressions.specs.Laws.Progression.{placed_points}
 use Rattle.progressions.proofs.arith.progression.Goals as goal
 
 pub returns : goal.returns

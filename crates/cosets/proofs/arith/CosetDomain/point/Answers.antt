@@ -2,7 +2,7 @@ use Rattle.std.proofs.Common.{◌^◌, ◌<◌, sym, ap, ◌∙◌, ap₂, zero-
 use Rattle.algebra.specs.Ring.{pow}
 use Rattle.algebra.proofs.CosetVanishing.{coset_at}
 use Rattle.cosets.specs.Coset.{turns, shift_of, step_of, bits_of, points_of}
-use Rattle.cosets.specs.CosetLaws.{coset_length}
+use Rattle.cosets.specs.Laws.Coset.{coset_length}
 use Rattle.domain.proofs.Sampled.{get_d_past}
 use Rattle.cosets.proofs.arith.CosetDomain.point.Goals as goal
 

@@ -1,7 +1,7 @@
 use Rattle.std.proofs.Common.{◌*◌, ◌%◌, ◌^◌, ◌<◌, sym, ap, ◌∙◌, mod-eq_of_lt, one-mul, arith}
 use lib.Pow.{pow-lt}
 use Rattle.cosets.specs.Coset.{turns, bits_of}
-use Rattle.cosets.specs.CosetLaws.{bits_within, coset_length}
+use Rattle.cosets.specs.Laws.Coset.{bits_within, coset_length}
 use Rattle.cosets.proofs.arith.CosetDomain.size.Goals as goal
 
 pub returns : goal.returns

@@ -5,7 +5,7 @@ use Rattle.algebra.specs.Ring.{pow, nat}
 use Rattle.cosets.specs.Coset.{turns, bits_of, shift_of, step_of}
 use Rattle.cosets.specs.Sums.{sums, geometric}
 use Rattle.cosets.proofs.CosetBasis.{coset_interpolated}
-use Rattle.cosets.specs.CosetLaws.{bits_within}
+use Rattle.cosets.specs.Laws.Coset.{bits_within}
 use Rattle.cosets.proofs.arith.period.value_at.Goals as goal
 
 pub returns : goal.returns

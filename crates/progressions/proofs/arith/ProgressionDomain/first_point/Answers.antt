@@ -1,6 +1,6 @@
 use Rattle.std.proofs.Common.{◌^◌, sym, ap, ◌∙◌, pow_pos}
 use Rattle.progressions.specs.Progression.{numbers, term, step_of, bits_of}
-use Rattle.progressions.specs.Terms.{term_at}
+use Rattle.progressions.specs.Laws.Terms.{term_at}
 use Rattle.progressions.proofs.arith.ProgressionDomain.first_point.Goals as goal
 
 pub returns : goal.returns

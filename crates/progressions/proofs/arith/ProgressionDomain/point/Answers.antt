@@ -1,7 +1,7 @@
 use Rattle.std.proofs.Common.{◌^◌, ◌<◌, sym, ap, ◌∙◌, zero-add, arith}
 use Rattle.progressions.specs.Progression.{numbers, term, step_of, bits_of, points_of}
-use Rattle.progressions.specs.ProgressionLaws.{progression_length, few_points}
-use Rattle.progressions.specs.Terms.{term_at}
+use Rattle.progressions.specs.Laws.Progression.{progression_length, few_points}
+use Rattle.progressions.specs.Laws.Terms.{term_at}
 use Rattle.domain.proofs.Sampled.{get_d_past}
 use Rattle.progressions.proofs.arith.ProgressionDomain.point.Goals as goal
 

@@ -1,6 +1,6 @@
 use Rattle.std.proofs.Common.{sym, ◌∙◌}
 use Rattle.progressions.specs.Progression.{numbers}
-use Rattle.progressions.specs.ProgressionLaws.{progression_length}
+use Rattle.progressions.specs.Laws.Progression.{progression_length}
 use Rattle.progressions.proofs.arith.ProgressionDomain.size.Goals as goal
 
 pub returns : goal.returns

@@ -6,7 +6,7 @@ use Rattle.algebra.specs.Field.{total}
 use Rattle.cosets.specs.Coset.{turns, bits_of, points_of, moved}
 use Rattle.domain.specs.Logarithm.{log_within}
 use Rattle.domain.specs.Periodic.{interpolated, periodic_by}
-use Rattle.cosets.specs.CosetLaws.{bits_within, coset_length, coset_points_distinct}
+use Rattle.cosets.specs.Laws.Coset.{bits_within, coset_length, coset_points_distinct}
 use Rattle.cosets.proofs.CosetPeriod.{period_value}
 use Rattle.domain.proofs.Logs.{log_some}
 use Rattle.domain.proofs.Through.{through}

@@ -17,7 +17,7 @@ use Rattle.progressions.specs.Progression.{Numbers, fitting, term, terms, step_o
 use Rattle.domain.specs.Logarithm.{log_within}
 use Rattle.domain.specs.Pieces.{PowerOfTwo, PieceOf}
 use Rattle.domain.proofs.Logs.{log_some, log_none, divisor}
-use Rattle.progressions.specs.Terms.{length_terms, term_at, fitting_within, fitting_fits, fitting_keeps, terms_later, term_piece, times_none, nat_nonzero, terms_distinct, terms_apart}
+use Rattle.progressions.specs.Laws.Terms.{length_terms, term_at, fitting_within, fitting_fits, fitting_keeps, terms_later, term_piece, times_none, nat_nonzero, terms_distinct, terms_apart}
 
 module _ {F : Type 0} (t : Numbers F) (laws : FieldLaws t.ops t.inverse) (numbered : F → ℕ) (named : Numbered t.ops t.modulus numbered) where
   open t use {ops, inverse, modulus}

@@ -1,0 +1,2 @@
+-- Proofs that the ghost members of impls need, so that they stand here and not in proofs/. No contract cites them.
+pub mod Coset
