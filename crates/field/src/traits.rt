@@ -4,7 +4,7 @@ ghost use Rattle.algebra.specs.Ring.{RingOps, nat, sub};
 ghost use Rattle.algebra.specs.Field.{FieldLaws, Decides};
 ghost use Rattle.field.specs.Numbers.{Numbered, numbered_by};
 
-pub trait Field: Copy {
+pub trait Field: Copy + Eq {
     ghost ops: { RingOps Self };
 
     ghost inverted: { Self → Option Self };
@@ -38,7 +38,13 @@ pub trait Field: Copy {
         ensures { result ≡ inverted self };
 
     fn equals(self, other: Self) -> bool
-        ensures { Decides result (self ≡ other) };
+        ensures { Decides result (self ≡ other) }
+    {
+        self == other
+    }
+
+    // `==` tells whether two elements are the same.
+    ghost equality: { (a b : Self) → Decides (Self.PartialEq.eq a b) (a ≡ b) };
 }
 
 // The field of the numbers below a prime.

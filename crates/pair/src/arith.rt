@@ -1,6 +1,8 @@
 // Pairs of residues of 2013265921 under √11 are a field.
 ghost use Rattle.std.specs.Prelude.{◌≡◌};
+ghost use Rattle.residue.specs.Laws.Residue.{residue_equality};
 ghost use Rattle.pair.specs.BabyBearPairs.{eleven as w, pairs, pairs_inverse, pairs_laws};
+ghost use Rattle.pair.specs.Laws.Pair.{pair_equality};
 
 use crate::Pair;
 use field::traits::Field;
@@ -18,6 +20,8 @@ impl Field for Pair<BabyBear> {
     ghost inverted = { pairs_inverse };
 
     ghost laws = { pairs_laws };
+
+    ghost equality = { pair_equality residue_equality };
 
     fn zero() -> Self {
         Pair {
@@ -79,9 +83,5 @@ impl Field for Pair<BabyBear> {
             base: self.base.mul(inverse),
             root: self.root.neg().mul(inverse),
         })
-    }
-
-    fn equals(self, other: Self) -> bool {
-        self.base.equals(other.base) && self.root.equals(other.root)
     }
 }

@@ -1,10 +1,10 @@
-// Residues are a field.
+// Residues are a field, numbered by the numbers below P.
 ghost use Rattle.std.specs.Prelude.{◌≡◌};
 ghost use Rattle.residue.specs.Residue.{reduced, residue_ops, residue_inverse};
-ghost use Rattle.residue.specs.Laws.Residue.{residue_laws};
+ghost use Rattle.residue.specs.Laws.Residue.{residue_laws, residue_equality, residue_numbered};
 
 use crate::{Modulus, Residue};
-use field::traits::Field;
+use field::traits::{Field, PrimeField};
 
 impl<const P: u32> Residue<P>
 where
@@ -29,6 +29,8 @@ where
     ghost inverted = { residue_inverse P ⟦<Self as Modulus<P>>⟧.prime.above_one };
 
     ghost laws = { residue_laws P ⟦<Self as Modulus<P>>⟧.prime.above_one ⟦<Self as Modulus<P>>⟧.prime };
+
+    ghost equality = { residue_equality };
 
     fn zero() -> Self {
         Self::of(0)
@@ -73,8 +75,23 @@ where
         }
         Some(found)
     }
+}
 
-    fn equals(self, other: Self) -> bool {
-        self.value == other.value
+impl<const P: u32> PrimeField for Residue<P>
+where
+    Self: Modulus<P>,
+{
+    ghost modulus = { P };
+
+    ghost numbered = { λ x. x.value };
+
+    ghost numbers = { residue_numbered P ⟦<Self as Modulus<P>>⟧.prime.above_one ⟦<Self as Modulus<P>>⟧.prime };
+
+    fn order() -> u32 {
+        P
+    }
+
+    fn number(self) -> u32 {
+        self.value()
     }
 }

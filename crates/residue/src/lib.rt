@@ -13,7 +13,7 @@ pub trait Modulus<const P: u32> {
     ghost prime: { Prime P };
 }
 
-#[derive(Clone, Copy)]
+#[derive(Clone, Copy, PartialEq, Eq)]
 pub struct Residue<const P: u32> {
     value: u32,
     ghost below: { value < P },
