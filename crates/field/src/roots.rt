@@ -16,6 +16,7 @@ pub trait TwoAdic: PrimeField {
     // The generator is in no group of 2^apart elements.
     ghost apart: { ℕ };
 
+    // Functions and no constants: beside a constant stands a ghost member of its own, so an impl would say each number once more.
     fn greatest_bits() -> u32
         ensures { result ≡ bits };
 

@@ -18,7 +18,7 @@ pub trait Field: Copy + Eq {
     fn one() -> Self
         ensures { result ≡ ops.one };
 
-    // 1 + .. + 1, n times: n modulo the characteristic.
+    // 1 + .. + 1, n times: n modulo the characteristic. A bound From<u32> would need a law to say so.
     fn from_u32(n: u32) -> Self
         ensures { result ≡ nat ops n };
 
@@ -59,15 +59,11 @@ pub trait PrimeField: Field {
     fn number(self) -> u32
         ensures { result ≡ numbered self };
 
-    // The element of that number, which is below the modulus.
+    // The element of that number, which is below the modulus. A bound TryFrom<u32> would need a law to say so.
     fn from_number(n: u32) -> Option<Self>
         ensures { result ≡ numbered_by Self.Field.ops modulus n }
     {
-        if n < Self::order() {
-            Some(Self::from_u32(n))
-        } else {
-            None
-        }
+        (n < Self::order()).then(|| Self::from_u32(n))
     }
 
     // Elements and the numbers below the modulus name each other.

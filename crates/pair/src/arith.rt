@@ -8,6 +8,7 @@ use crate::Pair;
 use field::traits::Field;
 use residue::moduli::BabyBear;
 
+#[tactic(auto, using(residue::specs::Moduli::residues_nat))]
 fn eleven() -> BabyBear
     ensures { result ≡ w }
 {

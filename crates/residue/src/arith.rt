@@ -10,7 +10,7 @@ impl<const P: u32> Residue<P>
 where
     Self: Modulus<P>,
 {
-    // n modulo P
+    // n modulo P: no From, since it makes one residue of many numbers.
     fn of(n: u64) -> Self
         ensures { result ≡ reduced P ⟦<Self as Modulus<P>>⟧.prime.above_one n }
     {
@@ -40,6 +40,7 @@ where
         Self::of(1)
     }
 
+    #[tactic(auto, using(crate::specs::Laws::Residue::nat_is))]
     fn from_u32(n: u32) -> Self {
         Self::of(n as u64)
     }

@@ -24,6 +24,7 @@ impl TwoAdic for Seventeen {
         3
     }
 
+    #[tactic(auto, using(crate::specs::Moduli::seventeens_nat))]
     fn generator() -> Self {
         Seventeen::from_u32(3)
     }
@@ -52,6 +53,7 @@ impl TwoAdic for BabyBear {
         27
     }
 
+    #[tactic(auto, using(crate::specs::Moduli::residues_nat))]
     fn generator() -> Self {
         BabyBear::from_u32(31)
     }
