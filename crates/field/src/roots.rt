@@ -43,7 +43,7 @@ pub fn root_of_unity<F: TwoAdic>(k: u32) -> Option<F>
     }
     let mut root = F::top_root();
     for _ in k..F::greatest_bits() {
-        root = root.mul(root);
+        root = root * root;
     }
     Some(root)
 }

@@ -64,5 +64,5 @@ fn square_root() -> Pair<BabyBear>
 fn plus_root(x: Pair<BabyBear>, y: Pair<BabyBear>) -> Pair<BabyBear>
     ensures { result ≡ pairs.add x (pairs.mul y (pairs_basis 1)) }
 {
-    x.add(y.mul(square_root()))
+    x + y * square_root()
 }

@@ -9,7 +9,7 @@ loop-preserved g c =
     let f = g.F.TwoAdic in
     let turns = c.loop.counter - c.args.k in
     let one_more : suc turns ≡ c.loop.counter + 1 - c.args.k = omega arith in
-    c.mul-root.ensures
+    g.met.F.Field.products _ _ _ c.mul-root.ensures
     ∙ ap₂ g.F.Field.ops.mul c.loop.invariant c.loop.invariant
     ∙ squared_again g.F.Field.laws.ring f.generated f.odd turns
     ∙ ap (λ m. pow g.F.Field.ops f.generated (f.odd * 2 ^ m)) one_more
