@@ -12,17 +12,11 @@ mod tests {
     const INVERSES: [u32; 16] = [1, 9, 6, 13, 7, 3, 5, 15, 2, 12, 14, 10, 4, 11, 8, 16];
 
     fn number<F: PrimeField>(x: Option<F>) -> Option<u32> {
-        match x {
-            Some(x) => Some(x.number()),
-            None => None,
-        }
+        x.map(F::number)
     }
 
     fn parts(x: Option<Pair<BabyBear>>) -> Option<(u32, u32)> {
-        match x {
-            Some(x) => Some((x.base.number(), x.root.number())),
-            None => None,
-        }
+        x.map(|x| (x.base.number(), x.root.number()))
     }
 
     fn pair(base: u32, root: u32) -> Pair<BabyBear> {
@@ -40,9 +34,8 @@ mod tests {
     #[test]
     fn inverses_modulo_17(rt: HostRuntime) {
         assert_eq!(rt; number(Seventeen::zero().inverse()), None);
-        for i in 0..16usize {
-            let x = Seventeen::from_u32(i as u32 + 1);
-            assert_eq!(rt; number(x.inverse()), Some(INVERSES[i]));
+        for (n, inverse) in (1..17u32).zip(INVERSES) {
+            assert_eq!(rt; number(Seventeen::from_u32(n).inverse()), Some(inverse));
         }
     }
 
