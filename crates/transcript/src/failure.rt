@@ -1,4 +1,4 @@
-// What a phase refuses for, with its number.
+// What a phase refuses for, with its number: a refusal's number is a word of the subject, which docs/VERIFIER.md gives.
 ghost use Rattle.std.specs.Prelude.{◌≡◌};
 ghost use Rattle.transcript.specs.Failures.{number_of};
 

@@ -1,6 +1,6 @@
 use Rattle.std.proofs.Common.{◌≡◌, ◌%◌, sym, ap, ◌∙◌, ap₂, add-one, arith}
 use Rattle.algebra.specs.Ring.{nat}
-use Rattle.transcript.specs.Takes.{after, words, over}
+use Rattle.transcript.specs.Takes.{after, words, challenge, drawn, over}
 use Rattle.transcript.proofs.Drawing.{one_more}
 use Rattle.transcript.proofs.challenge.draw_challenge.Goals as goal
 
@@ -31,7 +31,8 @@ returns g c =
     let s = c.args.sponge.now in
     let size = c.dimension-k-end.ensures in
     let all : c.loop-k.k ≡ g.E.Extension.dim = omega arith in
+    let law = g.met.E.Challenge.over_words in
     record {
-      value = c.loop-k.invariant.2 ∙ ap (λ n. (over g.F.PrimeField.modulus g.E.Field.ops g.E.Extension.dim g.E.Extension.basis).of (words st n s)) all;
-      left = c.loop-k.invariant.1 ∙ ap (λ n. after st n s) all;
+      value = c.loop-k.invariant.2 ∙ ap (λ n. (over g.F.PrimeField.modulus g.E.Field.ops g.E.Extension.dim g.E.Extension.basis).of (words st n s)) all ∙ ap (λ d. challenge st d s) (sym law);
+      left = c.loop-k.invariant.1 ∙ ap (λ n. after st n s) all ∙ ap (λ d. drawn st d s) (sym law);
     }
