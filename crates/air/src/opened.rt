@@ -5,6 +5,7 @@ ghost use Rattle.air.specs.Values.{of_value};
 
 use crate::builder::{Layout, Rows};
 use crate::value::Value;
+use expression::Leaf;
 use field::extension::Extension;
 use field::traits::Field;
 
@@ -87,63 +88,19 @@ impl<F: Field, E: Extension<F>> Rows for OpenedRows<'_, F, E> {
 
     ghost reads = { λ rows l. of_value (opened E.Field.ops E.Extension.embedded rows l) };
 
-    fn main(&self, column: usize) -> Value<E> {
-        Value {
-            value: cell(self.main, column),
-        }
-    }
-
-    fn main_next(&self, column: usize) -> Value<E> {
-        Value {
-            value: cell_if_any(self.main_next, column),
-        }
-    }
-
-    fn preprocessed(&self, column: usize) -> Value<E> {
-        Value {
-            value: cell(self.preprocessed, column),
-        }
-    }
-
-    fn preprocessed_next(&self, column: usize) -> Value<E> {
-        Value {
-            value: cell_if_any(self.preprocessed_next, column),
-        }
-    }
-
-    fn public_value(&self, index: usize) -> Value<E> {
-        Value {
-            value: embedded_cell(self.public_values, index),
-        }
-    }
-
-    fn periodic_value(&self, column: usize) -> Value<E> {
-        Value {
-            value: cell(self.periodic_values, column),
-        }
-    }
-
-    fn is_first_row(&self) -> Value<E> {
-        Value {
-            value: self.is_first_row,
-        }
-    }
-
-    fn is_last_row(&self) -> Value<E> {
-        Value {
-            value: self.is_last_row,
-        }
-    }
-
-    fn is_transition(&self) -> Value<E> {
-        Value {
-            value: self.is_transition,
-        }
-    }
-
-    fn number(&self, n: u32) -> Value<E> {
-        Value {
-            value: E::from_u32(n),
-        }
+    fn read(&self, leaf: Leaf) -> Value<E> {
+        let value = match leaf {
+            Leaf::Main(column) => cell(self.main, column),
+            Leaf::MainNext(column) => cell_if_any(self.main_next, column),
+            Leaf::Preprocessed(column) => cell(self.preprocessed, column),
+            Leaf::PreprocessedNext(column) => cell_if_any(self.preprocessed_next, column),
+            Leaf::Public(index) => embedded_cell(self.public_values, index),
+            Leaf::Periodic(column) => cell(self.periodic_values, column),
+            Leaf::IsFirst => self.is_first_row,
+            Leaf::IsLast => self.is_last_row,
+            Leaf::IsTransition => self.is_transition,
+            Leaf::Number(n) => E::from_u32(n),
+        };
+        Value { value }
     }
 }
