@@ -7,7 +7,7 @@ ghost use Rattle.air.specs.declared.builder.Layout.{Layout};
 
 use expression::Leaf;
 use field::traits::Field;
-use std::ops::{Add, Mul, Sub};
+use std::ops::{Add, Mul, Range, Sub};
 
 // What an AIR reads, at most; the number of its boundary cells; and a degree, where it declares one.
 #[derive(Clone, Copy)]
@@ -143,16 +143,15 @@ pub trait Air<F: Field> {
         ensures { builder.new ≡ asserted B.step R.Expr.Algebra.operations (R.reads rows.now) builder.old (constraints self.now) };
 }
 
-// Asserts of each column from one up to another that it is 0 or 1.
+// Asserts of each of the columns that it is 0 or 1.
 pub fn assert_bools<R: Rows, B: AirBuilder<R::Expr>>(
     rows: &R,
     builder: &mut B,
-    from: usize,
-    to: usize,
+    columns: Range<usize>,
 )
-    ensures { builder.new ≡ asserted B.step R.Expr.Algebra.operations (R.reads rows.now) builder.old (booleans from (to - from)) }
+    ensures { builder.new ≡ asserted B.step R.Expr.Algebra.operations (R.reads rows.now) builder.old (booleans columns.start (columns.end - columns.start)) }
 {
-    for column in from..to {
+    for column in columns {
         let bit = rows.main(column);
         builder.assert_zero(bit * (bit - rows.number(1)));
     }
