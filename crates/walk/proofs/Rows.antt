@@ -3,7 +3,8 @@ use Rattle.std.proofs.Common.{◌≡◌, ℕ, ◌+◌, ◌<◌, Bool, true, cond
 use Rattle.std.proofs.lemmas.List.{length-map}
 use Rattle.std.proofs.lemmas.Bool.{lt-ltb, ltb-true}
 use Rattle.algebra.specs.Ring.{RingOps}
-use Rattle.expression.specs.Expression.{Leaf, main, main_next, preprocessed, preprocessed_next, public, periodic, is_first, is_last, is_transition, number}
+use Rattle.expression.specs.declared.Leaf.{Leaf}
+use Rattle.expression.specs.declared.Leaf.TheVariants.{Main, MainNext, Preprocessed, PreprocessedNext, Public, Periodic, IsFirst, IsLast, IsTransition, Number}
 use Rattle.air.specs.Picker.{constraint_at}
 use Rattle.air.specs.Opened.{opened}
 use Rattle.air.specs.Sound.{declares}
@@ -27,16 +28,16 @@ held {X = X} {Y = Y} b x v y r h e f =
 module _ {F : Type 0} (ops : RingOps F) (opened_rows : OpenedRows F F) (rows : List (StationRow F)) (ends : WalkEnds F) (row : ℕ)
     (is : ReadsStation ops opened_rows (get_or (table_of rows) row []) (get_or (table_of rows) (row + 1) []) ends.values (eqb row 0) (eqb (row + 1) (length rows))) where
   agree : (l : Leaf) → declares station_layout l ≡ true → opened ops (λ x. x) opened_rows l ≡ reads_in ops rows ends row l
-  agree (main i) h = ap (λ r. get_or r i ops.zero) is.main_is
-  agree (main_next i) h = ap (λ r. get_or r i ops.zero) is.next_is ∙ ap (λ n. get_or (get_or (table_of rows) n []) i ops.zero) (add-one row)
-  agree (preprocessed i) h = absurd (omega (arith, ltb-true i 0 h))
-  agree (preprocessed_next i) h = absurd (omega (arith, ltb-true 0 0 h))
-  agree (public k) h = ap (λ xs. get_or xs k ops.zero) (map_same opened_rows.public_values.now ∙ is.publics_is)
-  agree (periodic i) h = absurd (omega (arith, ltb-true i 0 h))
-  agree is_first h = is.first_is
-  agree is_last h = is.last_is ∙ ap (λ n. flag ops (eqb (row + 1) n)) (sym (length-map rows (λ r. r.cells)))
-  agree is_transition h = is.transition_is ∙ ap (λ n. flag ops (not (eqb (row + 1) n))) (sym (length-map rows (λ r. r.cells)))
-  agree (number n) h = refl
+  agree (Main i) h = ap (λ r. get_or r i ops.zero) is.main_is
+  agree (MainNext i) h = ap (λ r. get_or r i ops.zero) is.next_is ∙ ap (λ n. get_or (get_or (table_of rows) n []) i ops.zero) (add-one row)
+  agree (Preprocessed i) h = absurd (omega (arith, ltb-true i 0 h))
+  agree (PreprocessedNext i) h = absurd (omega (arith, ltb-true 0 0 h))
+  agree (Public k) h = ap (λ xs. get_or xs k ops.zero) (map_same opened_rows.public_values.now ∙ is.publics_is)
+  agree (Periodic i) h = absurd (omega (arith, ltb-true i 0 h))
+  agree IsFirst h = is.first_is
+  agree IsLast h = is.last_is ∙ ap (λ n. flag ops (eqb (row + 1) n)) (sym (length-map rows (λ r. r.cells)))
+  agree IsTransition h = is.transition_is ∙ ap (λ n. flag ops (not (eqb (row + 1) n))) (sym (length-map rows (λ r. r.cells)))
+  agree (Number n) h = refl
 
   pub row_value : row < length rows → (k : ℕ) → constraint_at ops (opened ops (λ x. x) opened_rows) station k ≡ value_in ops rows ends row k
   row_value h k =

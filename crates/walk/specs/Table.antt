@@ -1,7 +1,7 @@
 -- The station AIR's constraints on the rows of a table. Assumes nothing.
 use Rattle.std.specs.Prelude.{◌≡◌, ℕ, ◌+◌, ◌<◌, ◌≤◌, Bool, true, false, not, List, [], map, length, Some, None, Option, ◌==◌, nat_lt, slice_index_or}
 use Rattle.algebra.specs.Ring.{RingOps}
-use Rattle.expression.specs.Expression.{Leaf}
+use Rattle.expression.specs.declared.Leaf.{Leaf}
 use Rattle.air.specs.Picker.{constraint_at}
 use Rattle.air.specs.Opened.{cells}
 use Rattle.air.specs.declared.opened.OpenedRows.{OpenedRows}
