@@ -92,12 +92,7 @@ impl<'a, F: Field> Table<'a, F> {
     pub fn failing_constraint(self, row: usize, from: usize) -> Option<usize>
         ensures { FirstFailing (ZeroIn F.ops self.entry.rows.now self.entry.ends.now row) from 11 result }
     {
-        for constraint in from..11 {
-            if !self.vanishes_in_row(row, constraint) {
-                return Some(constraint);
-            }
-        }
-        None
+        (from..11).find(|constraint| !self.vanishes_in_row(row, *constraint))
     }
 
     // The first row, and the first constraint on it, that is not zero.
