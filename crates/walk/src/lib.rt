@@ -45,7 +45,7 @@ fn flag<F: Field>(test: bool) -> F
 }
 
 impl<'a, F: Field> Table<'a, F> {
-    // The cells of a row; nothing past the last.
+    // The cells of a row; nothing past the last. A slice and not [F; 9], which no caller could show to fit in memory.
     fn cells(self, row: usize) -> Option<&'a [F]>
         ensures same { cells result ≡ slice_index_or (table_of self.entry.rows.now) row [] }
         ensures nine { next_covers 9 result ≡ true }
