@@ -2,7 +2,8 @@
 use Rattle.std.proofs.Common.{◌≡◌, ℕ, zero, suc, Bool, true, List, [], ◌∷◌, Some, None, refl, ap, ◌∙◌}
 use Rattle.std.proofs.lemmas.Bool.{and_parts}
 use Rattle.algebra.specs.Ring.{RingOps}
-use Rattle.expression.specs.Expression.{Leaf, Expression, values, meaning, folded, asserted, within, all_within}
+use Rattle.expression.specs.declared.Leaf.{Leaf}
+use Rattle.expression.specs.Expression.{Expression, values, meaning, folded, asserted, within, all_within}
 use Rattle.expression.proofs.Meanings.{meaning_kept, same_meaning}
 use Rattle.air.specs.Folder.{horner}
 use Rattle.air.specs.Picker.{constraint_at, picked}

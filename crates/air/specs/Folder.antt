@@ -1,7 +1,8 @@
 -- The fold of constraints over opened rows. Assumes nothing.
 use Rattle.std.specs.Prelude.{◌≡◌, true, cond, List, Ok, Err, Result}
 use Rattle.algebra.specs.Ring.{RingOps}
-use Rattle.expression.specs.Expression.{Leaf, Expression, values, folded}
+use Rattle.expression.specs.declared.Leaf.{Leaf}
+use Rattle.expression.specs.Expression.{Expression, values, folded}
 use Rattle.air.specs.Opened.{covers, opened}
 use Rattle.air.specs.Sound.{declares}
 use Rattle.air.specs.declared.builder.Layout.{Layout}

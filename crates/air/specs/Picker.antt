@@ -1,7 +1,8 @@
 -- The value of one constraint over opened rows. Assumes nothing.
 use Rattle.std.specs.Prelude.{ℕ, zero, suc, List, [], ◌∷◌, Some, None, Option, Result}
 use Rattle.algebra.specs.Ring.{RingOps}
-use Rattle.expression.specs.Expression.{Leaf, Expression, values, meaning}
+use Rattle.expression.specs.declared.Leaf.{Leaf}
+use Rattle.expression.specs.Expression.{Expression, values, meaning}
 use Rattle.air.specs.Folder.{if_covered}
 use Rattle.air.specs.Opened.{opened}
 use Rattle.air.specs.declared.builder.Layout.{Layout}

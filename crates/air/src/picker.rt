@@ -3,7 +3,7 @@ ghost use Rattle.std.specs.Prelude.{◌≡◌};
 ghost use Rattle.air.specs.Picker.{constraint_or_refusal, picked};
 
 use crate::builder::{Air, AirBuilder};
-use crate::opened::{AirInputsTooShort, OpenedRows};
+use crate::opened::{AirInputsTooShort, OpenedRows, assert_over};
 use crate::value::Value;
 use field::extension::Extension;
 use field::traits::Field;
@@ -37,13 +37,9 @@ pub fn constraint_value<F: Field, E: Extension<F>, A: Air<F>>(
 ) -> Result<Option<E>, AirInputsTooShort>
     ensures { result ≡ constraint_or_refusal E.Field.ops E.embedded (A.declared air.now) (A.constraints air.now) rows.now index }
 {
-    if !rows.covers(&air.layout()) {
-        return Err(AirInputsTooShort);
-    }
-    let mut picker = ConstraintPicker {
+    let picker = ConstraintPicker {
         left: index,
         found: None,
     };
-    air.eval(rows, &mut picker);
-    Ok(picker.found)
+    Ok(assert_over(air, rows, picker)?.found)
 }

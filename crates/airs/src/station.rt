@@ -51,7 +51,7 @@ impl<F: Field> Air<F> for StationAir {
     }
 
     fn eval<R: Rows, B: AirBuilder<R::Expr>>(&self, rows: &R, builder: &mut B) {
-        assert_bools(rows, builder, 1, 9);
+        assert_bools(rows, builder, 1..9);
         let station = rows.main(0);
         let step = rows.main_next(0) - station - rows.number(1);
         builder.assert_zero(rows.is_transition() * (step - byte(rows)));

@@ -1,7 +1,8 @@
 -- Values under a map that keeps the operations, and under two ways to read. Assumes nothing.
 use Rattle.std.proofs.Common.{◌≡◌, Bool, true, List, [], ◌∷◌, refl, ap, ◌∙◌, ap₂}
 use Rattle.std.proofs.lemmas.Bool.{and_parts}
-use Rattle.expression.specs.Expression.{Leaf, Expression, leaf, sum, difference, product, Operations, meaning, folded, within, all_within}
+use Rattle.expression.specs.declared.Leaf.{Leaf}
+use Rattle.expression.specs.Expression.{Expression, leaf, sum, difference, product, Operations, meaning, folded, within, all_within}
 
 -- h keeps the three operations
 module _ {A B : Type 0} (a : Operations A) (b : Operations B) (h : A → B)

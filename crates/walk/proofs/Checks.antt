@@ -5,7 +5,8 @@ use Rattle.std.proofs.lemmas.Bool.{eq-eqb, ne_eqb, lt-ltb, false≢true}
 use Rattle.algebra.specs.Field.{Decides, FieldLaws}
 use Rattle.algebra.specs.Polynomial.{Each}
 use Rattle.algebra.specs.Ring.{RingOps}
-use Rattle.expression.specs.Expression.{Leaf, Expression, values, meaning}
+use Rattle.expression.specs.declared.Leaf.{Leaf}
+use Rattle.expression.specs.Expression.{Expression, values, meaning}
 use Rattle.field.specs.Numbers.{Numbered}
 use Rattle.air.specs.Picker.{constraint_at}
 use Rattle.airs.specs.Station.{station}
