@@ -27,7 +27,7 @@ pub fn draw_challenge<S: Sponge, F: PrimeField, E: Challenge<F>>(sponge: &mut S)
     let mut value = E::zero();
     for k in 0..E::dimension() {
         let word = sponge.give() % F::order();
-        value = value.add(E::from_u32(word).mul(E::basis_element(k)));
+        value = value + E::from_u32(word) * E::basis_element(k);
     }
     value
 }

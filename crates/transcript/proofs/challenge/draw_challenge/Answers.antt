@@ -13,6 +13,7 @@ nonzero_rem-word g c =
 pub loop-k-preserved : goal.loop-k-preserved
 loop-k-preserved g c =
     let st = g.S.Sponge.steps in
+    let l = g.met.E.Field in
     let o = g.E.Field.ops in
     let s = c.args.sponge.now in
     let k = c.loop-k.k in
@@ -22,7 +23,7 @@ loop-k-preserved g c =
     let size = c.dimension-k-end.ensures in (
       omega arith,
       (c.give.ensures.left ∙ ap st.given c.loop-k.invariant.1 ∙ sym (ap (λ n. after st n s) (add-one k))),
-      (c.add-value.ensures ∙ ap₂ o.add c.loop-k.invariant.2 (c.mul.ensures ∙ ap₂ o.mul word c.basis_element.ensures) ∙ sym (one_more g.E.Field.laws.ring g.E.Extension.basis st p g.E.Extension.dim k s)),
+      (l.sums _ _ _ c.add-value.ensures ∙ ap₂ o.add c.loop-k.invariant.2 (l.products _ _ _ c.mul.ensures ∙ ap₂ o.mul word c.basis_element.ensures) ∙ sym (one_more g.E.Field.laws.ring g.E.Extension.basis st p g.E.Extension.dim k s)),
     )
 
 pub returns : goal.returns
