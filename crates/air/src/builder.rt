@@ -1,7 +1,7 @@
 // An AIR, and what a builder gives it: rows to read from, and a place to assert its constraints.
 ghost use Rattle.std.specs.Prelude.{◌≡◌, ◌-◌, List, [], slice_index_or};
 ghost use Rattle.expression.specs.declared.Leaf.{Leaf};
-ghost use Rattle.expression.specs.Expression.{Expression, Operations, asserted, booleans};
+ghost use Rattle.expression.specs.Expression.{Expression, Operations, asserted, booleans, values};
 ghost use Rattle.air.specs.Sound.{Sound};
 ghost use Rattle.air.specs.declared.builder.Layout.{Layout};
 
@@ -41,6 +41,23 @@ pub trait Algebra: Copy
     ghost any_difference: { (a b : Self) → Self.Sub.can_sub a b };
 
     ghost any_product: { (a b : Self) → Self.Mul.can_mul a b };
+}
+
+// The elements of a field.
+impl<E: Field> Algebra for E {
+    ghost operations = { values E.ops };
+
+    ghost sums = { E.Field.sums };
+
+    ghost differences = { E.Field.differences };
+
+    ghost products = { E.Field.products };
+
+    ghost any_sum = { E.Field.any_sum };
+
+    ghost any_difference = { E.Field.any_difference };
+
+    ghost any_product = { E.Field.any_product };
 }
 
 // What each leaf of an expression is read as.

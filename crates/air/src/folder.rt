@@ -4,7 +4,6 @@ ghost use Rattle.air.specs.Folder.{DeclaredSuffices, fold_or_refusal, horner};
 
 use crate::builder::{Air, AirBuilder};
 use crate::opened::{AirInputsTooShort, OpenedRows, assert_over};
-use crate::value::Value;
 use field::extension::Extension;
 use field::traits::Field;
 
@@ -15,11 +14,11 @@ pub struct VerifierConstraintFolder<E> {
     accumulator: E,
 }
 
-impl<E: Field> AirBuilder<Value<E>> for VerifierConstraintFolder<E> {
+impl<E: Field> AirBuilder<E> for VerifierConstraintFolder<E> {
     ghost step = { horner E.Field.ops };
 
-    fn assert_zero(&mut self, x: Value<E>) {
-        self.accumulator = self.accumulator.mul(self.alpha).add(x.value);
+    fn assert_zero(&mut self, x: E) {
+        self.accumulator = self.accumulator * self.alpha + x;
     }
 }
 

@@ -1,12 +1,10 @@
 // What was opened at a point, as an AIR reads it.
 ghost use Rattle.std.specs.Prelude.{◌≡◌, map, slice_index_or};
-ghost use Rattle.expression.specs.Expression.{asserted};
+ghost use Rattle.expression.specs.Expression.{asserted, values};
 ghost use Rattle.air.specs.Folder.{if_covered};
 ghost use Rattle.air.specs.Opened.{cells, covers, next_covers, opened};
-ghost use Rattle.air.specs.Values.{of_value, value_operations};
 
 use crate::builder::{Air, AirBuilder, Layout, Rows};
-use crate::value::Value;
 use expression::Leaf;
 use field::extension::Extension;
 use field::traits::Field;
@@ -65,12 +63,12 @@ impl<F, E> OpenedRows<'_, F, E> {
 }
 
 impl<F: Field, E: Extension<F>> Rows for OpenedRows<'_, F, E> {
-    type Expr = Value<E>;
+    type Expr = E;
 
-    ghost reads = { λ rows l. of_value (opened E.Field.ops E.Extension.embedded rows l) };
+    ghost reads = { opened E.Field.ops E.Extension.embedded };
 
-    fn read(&self, leaf: Leaf) -> Value<E> {
-        let value = match leaf {
+    fn read(&self, leaf: Leaf) -> E {
+        match leaf {
             Leaf::Main(column) => cell(self.main, column),
             Leaf::MainNext(column) => cell_if_any(self.main_next, column),
             Leaf::Preprocessed(column) => cell(self.preprocessed, column),
@@ -81,18 +79,17 @@ impl<F: Field, E: Extension<F>> Rows for OpenedRows<'_, F, E> {
             Leaf::IsLast => self.is_last_row,
             Leaf::IsTransition => self.is_transition,
             Leaf::Number(n) => E::from_u32(n),
-        };
-        Value { value }
+        }
     }
 }
 
 // What the builder becomes when the AIR's constraints over the rows are asserted to it, each in turn.
-pub(crate) fn assert_over<F: Field, E: Extension<F>, A: Air<F>, B: AirBuilder<Value<E>> + Drop>(
+pub(crate) fn assert_over<F: Field, E: Extension<F>, A: Air<F>, B: AirBuilder<E> + Drop>(
     air: &A,
     rows: &OpenedRows<F, E>,
     mut builder: B,
 ) -> Result<B, AirInputsTooShort>
-    ensures { result ≡ if_covered (A.declared air.now) rows.now (asserted B.step (value_operations E.Field.ops) (λ l. of_value (opened E.Field.ops E.embedded rows.now l)) builder (A.constraints air.now)) }
+    ensures { result ≡ if_covered (A.declared air.now) rows.now (asserted B.step (values E.Field.ops) (opened E.Field.ops E.embedded rows.now) builder (A.constraints air.now)) }
 {
     if !rows.covers(&air.layout()) {
         return Err(AirInputsTooShort);

@@ -4,7 +4,6 @@ ghost use Rattle.air.specs.Picker.{constraint_or_refusal, picked};
 
 use crate::builder::{Air, AirBuilder};
 use crate::opened::{AirInputsTooShort, OpenedRows, assert_over};
-use crate::value::Value;
 use field::extension::Extension;
 use field::traits::Field;
 
@@ -15,13 +14,13 @@ pub struct ConstraintPicker<E> {
     found: Option<E>,
 }
 
-impl<E: Field> AirBuilder<Value<E>> for ConstraintPicker<E> {
+impl<E: Field> AirBuilder<E> for ConstraintPicker<E> {
     ghost step = { picked };
 
-    fn assert_zero(&mut self, x: Value<E>) {
+    fn assert_zero(&mut self, x: E) {
         if self.found.is_none() {
             if self.left == 0 {
-                self.found = Some(x.value);
+                self.found = Some(x);
             } else {
                 self.left -= 1;
             }
