@@ -29,7 +29,10 @@ pub trait Field: Copy + Eq {
         ensures { result ≡ ops.neg self };
 
     fn sub(self, other: Self) -> Self
-        ensures { result ≡ sub ops self other };
+        ensures { result ≡ sub ops self other }
+    {
+        self.add(other.neg())
+    }
 
     fn mul(self, other: Self) -> Self
         ensures { result ≡ ops.mul self other };

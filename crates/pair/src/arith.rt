@@ -59,13 +59,6 @@ impl Field for Pair<BabyBear> {
         }
     }
 
-    fn sub(self, other: Self) -> Self {
-        Pair {
-            base: self.base.sub(other.base),
-            root: self.root.sub(other.root),
-        }
-    }
-
     fn mul(self, other: Self) -> Self {
         let roots = eleven().mul(self.root.mul(other.root));
         Pair {

@@ -53,10 +53,6 @@ where
         Self::of((P - self.value) as u64)
     }
 
-    fn sub(self, other: Self) -> Self {
-        self.add(other.neg())
-    }
-
     fn mul(self, other: Self) -> Self {
         Self::of(self.value as u64 * other.value as u64)
     }
