@@ -50,10 +50,7 @@ impl Sub for Pair<BabyBear> {
     ghost sub_gives = { λ a b r. r ≡ sub pairs a b };
 
     fn sub(self, rhs: Self) -> Self {
-        Pair {
-            base: self.base - rhs.base,
-            root: self.root - rhs.root,
-        }
+        self + -rhs
     }
 }
 
