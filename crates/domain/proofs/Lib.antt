@@ -3,6 +3,7 @@ pub mod Embedding
 pub mod Logs
 pub mod Nonzeros
 pub mod Fronted
+pub mod Ratios
 pub mod Sampled
 pub mod Steps
 pub mod Through
