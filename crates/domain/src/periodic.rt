@@ -1,21 +1,11 @@
 // Periodic columns: their values between the points of a domain.
-ghost use Rattle.std.specs.Prelude.{◌≡◌, ◌%◌, ◌<◌, length};
+ghost use Rattle.std.specs.Prelude.{◌≡◌, ◌<◌, length};
 ghost use Rattle.domain.specs.Periodic.{interpolated as through, Through, periodic};
 
 use crate::traits::Domain;
 use crate::{powers, products};
 use field::extension::Extension;
 use field::traits::Field;
-
-// The place of point i's value in a column of P values.
-fn place(i: usize, count: usize) -> usize
-    requires { 0 < count }
-    ensures is { result ≡ i % count }
-    ensures below { result < count }
-{
-    let left = i % count;
-    left
-}
 
 // Lagrange's sum.
 fn interpolated<D: Domain>(d: D, column: &[D::Base], z: D::Ext) -> D::Ext
@@ -28,7 +18,7 @@ fn interpolated<D: Domain>(d: D, column: &[D::Base], z: D::Ext) -> D::Ext
         let at = <D::Ext as Extension<D::Base>>::embed(d.point(i));
         let before = products::basis(d, at, 0, i, z);
         let after = products::basis(d, at, i + 1, size, z);
-        let sample = <D::Ext as Extension<D::Base>>::embed(column[place(i, column.len())]);
+        let sample = <D::Ext as Extension<D::Base>>::embed(column[i % column.len()]);
         value = sample.mul(before.mul(after)).add(value);
     }
     value
