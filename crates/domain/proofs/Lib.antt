@@ -1,4 +1,3 @@
-pub mod Chosen
 pub mod Embedding
 pub mod Logs
 pub mod Nonzeros

@@ -1,11 +1,19 @@
 // Periodic columns: their values between the points of a domain.
-ghost use Rattle.std.specs.Prelude.{◌≡◌, ◌<◌, length};
+ghost use Rattle.std.specs.Prelude.{◌≡◌, ◌%◌, ◌<◌, length, slice_index_or};
 ghost use Rattle.domain.specs.Periodic.{interpolated as through, Through, periodic};
 
 use crate::traits::Domain;
 use crate::{powers, products};
 use field::extension::Extension;
 use field::traits::Field;
+
+// The column's value at point i.
+fn repeated<F: Field>(column: &[F], i: usize) -> F
+    requires { 0 < length column.now }
+    ensures { result ≡ slice_index_or column.now (i % length column.now) F.ops.zero }
+{
+    column[i % column.len()]
+}
 
 // Lagrange's sum.
 fn interpolated<D: Domain>(d: D, column: &[D::Base], z: D::Ext) -> D::Ext
@@ -18,7 +26,7 @@ fn interpolated<D: Domain>(d: D, column: &[D::Base], z: D::Ext) -> D::Ext
         let at = <D::Ext as Extension<D::Base>>::embed(d.point(i));
         let before = products::basis(d, at, 0, i, z);
         let after = products::basis(d, at, i + 1, size, z);
-        let sample = <D::Ext as Extension<D::Base>>::embed(column[i % column.len()]);
+        let sample = <D::Ext as Extension<D::Base>>::embed(repeated(column, i));
         value = sample.mul(before.mul(after)).add(value);
     }
     value

@@ -1,9 +1,9 @@
-use Rattle.std.proofs.Common.{◌≡◌, ◌+◌, ◌-◌, ◌%◌, ◌<◌, ◌≤◌, length, ap, ◌∙◌, ap₂, arith}
-use native.Mathlib.Nat.{sub-zero, mod-lt}
+use Rattle.std.proofs.Common.{◌≡◌, ◌+◌, ◌-◌, ◌<◌, ◌≤◌, length, ap, ◌∙◌, ap₂, arith}
+use native.Mathlib.Nat.{sub-zero}
 use Rattle.algebra.specs.Field.{total}
 use Rattle.algebra.specs.Lagrange.{basis}
 use Rattle.domain.specs.Points.{raised, later}
-use Rattle.domain.proofs.Sampled.{get_d_any, sum_back}
+use Rattle.domain.proofs.Sampled.{sum_back}
 use Rattle.domain.proofs.periodic.interpolated.Goals as goal
 
 pub loop-i-preserved : goal.loop-i-preserved
@@ -23,9 +23,7 @@ loop-i-preserved g c =
     let within : j ≤ n = omega (arith, size, c.loop-i.auto.i) in
     let next : j - 1 + 1 ≡ j = omega arith in
     let at = c.embed-at.ensures ∙ ap over.embedded c.point.ensures in
-    let k = (j - 1) % length column in
-    let read = c.index-column-i.is ∙ get_d_any column k c.index-column-i.result base.ops.zero (mod-lt (j - 1) c.requires) in
-    let sample = c.embed-sample.ensures ∙ ap over.embedded read in
+    let sample = c.embed-sample.ensures ∙ ap over.embedded c.repeated.ensures in
     let before = c.basis-before.ensures ∙ ap₂ (λ x k. basis o inv x (later base over points 0 k) z) at (sub-zero (j - 1)) in
     let after = c.basis-after.ensures ∙ ap₂ (λ x m. basis o inv x (later base over points (j - 1 + 1) (m - (j - 1 + 1))) z) at size ∙ ap (λ k. basis o inv (raised base over points (j - 1)) (later base over points k (n - k)) z) next in
     let weight = c.mul.ensures ∙ ap₂ o.mul before after in
