@@ -2,5 +2,6 @@ pub mod Logarithm
 pub mod Nonzero
 pub mod Periodic
 pub mod Pieces
+pub mod Points
 pub mod Selected
 pub mod Split

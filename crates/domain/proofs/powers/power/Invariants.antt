@@ -1,6 +1,6 @@
 use Rattle.std.proofs.Common.{◌≡◌}
 use Rattle.algebra.specs.Ring.{pow}
-use Rattle.domain.proofs.powers.by_bits.Given as goal
+use Rattle.domain.proofs.powers.power.Given as goal
 
 abbrev pub invariant-loop-left : goal.invariant-loop-left
 invariant-loop-left g l =
