@@ -63,7 +63,7 @@ module _ (r : Reading) (entry : List ℕ) where
           rest = drop-set-lt (count + 1) now count n (omega arith) ∙ sym (drop-drop 1 count now) ∙ ap (drop 1) g.rest ∙ drop-drop 1 count entry;
         }
 
-    pub step : (x : Result (Option ℕ) unfit.NotANumber) (answer : Result ℕ ListFault) (after : List ℕ)
+    step : (x : Result (Option ℕ) unfit.NotANumber) (answer : Result ℕ ListFault) (after : List ℕ)
         → Going r entry now count (on_line x (length entry) count line later) → Stepped x line count now answer after → Next r entry later answer after
     step (Ok None) answer after g s =
         subst (λ a. Next r entry later a after) (sym s.0) (subst (λ w. Going r entry w count (later count)) (sym s.1) g)

@@ -18,6 +18,7 @@ fn main(rt: HostRuntime) -> anyhow::Result<()> {
 fn run(rt: &HostRuntime) -> anyhow::Result<()> {
     let mut text = Vec::new(rt.alloc());
     rt.stdin().read_to_end(&mut text)?;
+    // The library has no heap: it fills places that are lent to it.
     let mut places = [0u32; 64];
     let count = list::read_list(&text, &mut places)?;
     tell(rt, &places[..count])
