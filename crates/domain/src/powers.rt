@@ -13,7 +13,7 @@ pub fn squared<E: Field>(x: E, k: u32) -> E
 {
     let mut value = x;
     for _ in 0..k {
-        value = value.mul(value);
+        value = value * value;
     }
     value
 }
@@ -26,7 +26,7 @@ fn power_of_parity<E: Field>(x: E, n: usize) -> E
 }
 
 // By squaring, over the bits of n from the lowest: what is left of n is halved, and no index is counted.
-#[tactic(auto, using(crate::proofs::Steps::pow_end, crate::proofs::Steps::pow_halves))]
+#[tactic(auto, using(crate::proofs::Steps::pow_end))]
 pub fn power<E: Field>(x: E, n: usize) -> E
     ensures { result ≡ pow E.ops x n }
 {
@@ -34,8 +34,8 @@ pub fn power<E: Field>(x: E, n: usize) -> E
     let mut square = x;
     let mut left = n;
     while left > 0 {
-        value = value.mul(power_of_parity(square, left));
-        square = square.mul(square);
+        value = value * power_of_parity(square, left);
+        square = square * square;
         left /= 2;
     }
     value

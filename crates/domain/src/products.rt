@@ -13,11 +13,11 @@ use field::traits::Field;
 // The product of z - p over the points p from number `from` on and before number `to`.
 #[tactic(auto, using(crate::proofs::Ratios::later_next, crate::proofs::Ratios::later_none))]
 pub fn vanishing<D: Domain>(d: D, from: usize, to: usize, z: D::Ext) -> D::Ext
-    ensures { result ≡ vanishing D.Ext.Field.ops (later D.Base.Field D.Ext.Extension.own (D.Domain.points d) from (to - from)) z }
+    ensures { result ≡ vanishing D.Ext.Field.ops (later D.Base.Field.own D.Ext.Extension.own (D.Domain.points d) from (to - from)) z }
 {
     let mut value = <D::Ext as Field>::one();
     for i in from..to {
-        value = value.mul(z.sub(<D::Ext as Extension<D::Base>>::embed(d.point(i))));
+        value = value * (z - <D::Ext as Extension<D::Base>>::embed(d.point(i)));
     }
     value
 }
@@ -25,7 +25,7 @@ pub fn vanishing<D: Domain>(d: D, from: usize, to: usize, z: D::Ext) -> D::Ext
 // The product of (z - p) / (a - p) over these points.
 #[tactic(auto, using(crate::proofs::Ratios::basis_ratio))]
 pub fn basis<D: Domain>(d: D, a: D::Ext, from: usize, to: usize, z: D::Ext) -> D::Ext
-    ensures { result ≡ basis D.Ext.Field.ops (total D.Ext.Field.ops D.Ext.Field.inverted) a (later D.Base.Field D.Ext.Extension.own (D.Domain.points d) from (to - from)) z }
+    ensures { result ≡ basis D.Ext.Field.ops (total D.Ext.Field.ops D.Ext.Field.inverted) a (later D.Base.Field.own D.Ext.Extension.own (D.Domain.points d) from (to - from)) z }
 {
-    vanishing(d, from, to, z).mul(powers::inverse_or_zero(vanishing(d, from, to, a)))
+    vanishing(d, from, to, z) * powers::inverse_or_zero(vanishing(d, from, to, a))
 }

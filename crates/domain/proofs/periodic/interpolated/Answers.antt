@@ -26,7 +26,8 @@ loop-i-preserved g c =
     let sample = c.embed-sample.ensures ∙ ap over.embedded c.repeated.ensures in
     let before = c.basis-before.ensures ∙ ap₂ (λ x k. basis o inv x (later base over points 0 k) z) at (sub-zero (j - 1)) in
     let after = c.basis-after.ensures ∙ ap₂ (λ x m. basis o inv x (later base over points (j - 1 + 1) (m - (j - 1 + 1))) z) at size ∙ ap (λ k. basis o inv (raised base over points (j - 1)) (later base over points k (n - k)) z) next in
-    let weight = c.mul.ensures ∙ ap₂ o.mul before after in
-    c.add-value.ensures
-    ∙ ap₂ o.add (c.mul-in-loop-i.ensures ∙ ap₂ o.mul sample weight) c.loop-i.invariant
+    let l = g.met.D.Ext.Field in
+    let weight = l.products _ _ _ c.mul.ensures ∙ ap₂ o.mul before after in
+    l.sums _ _ _ c.add-value.ensures
+    ∙ ap₂ o.add (l.products _ _ _ c.mul-in-loop-i.ensures ∙ ap₂ o.mul sample weight) c.loop-i.invariant
     ∙ sum_back base above over points column j n z some within
