@@ -50,20 +50,18 @@ mod tests {
         assert_eq!(rt; Seventeen::from_u32(4294967295).number(), 0);
         assert_eq!(rt; BabyBear::from_u32(4294967295).number(), 268435453);
         assert_eq!(rt;
-            Seventeen::from_u32(3).sub(Seventeen::from_u32(5)).number(),
+            (Seventeen::from_u32(3) - Seventeen::from_u32(5)).number(),
             15
         );
-        assert_eq!(rt; Seventeen::zero().neg().number(), 0);
+        assert_eq!(rt; (-Seventeen::zero()).number(), 0);
     }
 
     #[test]
     fn large_products(rt: HostRuntime) {
         let last = BabyBear::from_u32(2013265920);
-        assert_eq!(rt; last.mul(last).number(), 1);
+        assert_eq!(rt; (last * last).number(), 1);
         assert_eq!(rt;
-            BabyBear::from_u32(123456789)
-                .mul(BabyBear::from_u32(987654321))
-                .number(),
+            (BabyBear::from_u32(123456789) * BabyBear::from_u32(987654321)).number(),
             6500116
         );
         assert_eq!(rt; number(BabyBear::from_u32(3).inverse()), Some(1342177281));
@@ -71,11 +69,11 @@ mod tests {
 
     #[test]
     fn products_of_pairs(rt: HostRuntime) {
-        check_pair(&rt, pair(0, 1).mul(pair(0, 1)), 11, 0);
-        check_pair(&rt, pair(3, 4).mul(pair(5, 6)), 279, 38);
-        check_pair(&rt, pair(2013265920, 1).mul(pair(1, 1)), 10, 0);
-        check_pair(&rt, pair(3, 4).sub(pair(5, 6)), 2013265919, 2013265919);
-        check_pair(&rt, pair(3, 4).neg(), 2013265918, 2013265917);
+        check_pair(&rt, pair(0, 1) * pair(0, 1), 11, 0);
+        check_pair(&rt, pair(3, 4) * pair(5, 6), 279, 38);
+        check_pair(&rt, pair(2013265920, 1) * pair(1, 1), 10, 0);
+        check_pair(&rt, pair(3, 4) - pair(5, 6), 2013265919, 2013265919);
+        check_pair(&rt, -pair(3, 4), 2013265918, 2013265917);
         assert_eq!(rt; parts(pair(3, 4).inverse()), Some((1169382002, 1796267199)));
         assert_eq!(rt; parts(pair(0, 0).inverse()), None);
         assert!(rt; !pair(3, 4).equals(pair(3, 5)));
