@@ -11,7 +11,7 @@ use Rattle.std.specs.Slice.Iter.{split_rest, split_done, split_callee, split_ste
 use Rattle.std.proofs.lemmas.Iterator.{YieldsList}
 use Rattle.std.proofs.lemmas.Iterator.Consumers.{YieldsList-at, YieldsList-from_enumerate}
 use Rattle.std.proofs.lemmas.Iterator.Splits.{YieldsList-from_slice_split}
-use Rattle.bench_list.specs.declared.lines.NotANumber as unfit
+use Rattle.bench_list.specs.declared.lines.NotANumber as lines
 use Rattle.bench_list.specs.declared.list.ListFault.{ListFault}
 use Rattle.bench_list.specs.declared.list.ListFault.TheVariants.{NotANumber, TooManyRows}
 use Rattle.bench_list.specs.Lines.{line_of, lines_of, newline}
@@ -63,7 +63,7 @@ module _ (r : Reading) (entry : List ℕ) where
           rest = drop-set-lt (count + 1) now count n (omega arith) ∙ sym (drop-drop 1 count now) ∙ ap (drop 1) g.rest ∙ drop-drop 1 count entry;
         }
 
-    step : (x : Result (Option ℕ) unfit.NotANumber) (answer : Result ℕ ListFault) (after : List ℕ)
+    step : (x : Result (Option ℕ) lines.NotANumber) (answer : Result ℕ ListFault) (after : List ℕ)
         → Going r entry now count (on_line x (length entry) count line later) → Stepped x line count now answer after → Next r entry later answer after
     step (Ok None) answer after g s =
         subst (λ a. Next r entry later a after) (sym s.0) (subst (λ w. Going r entry w count (later count)) (sym s.1) g)
