@@ -11,7 +11,7 @@ use Rattle.std.specs.Slice.Iter.{split_rest, split_done, split_callee, split_ste
 use Rattle.std.proofs.lemmas.Iterator.{YieldsList}
 use Rattle.std.proofs.lemmas.Iterator.Consumers.{YieldsList-at, YieldsList-from_enumerate}
 use Rattle.std.proofs.lemmas.Iterator.Splits.{YieldsList-from_slice_split}
-use Rattle.bench_list.specs.declared.lines.NotANumber as unfit
+use Rattle.bench_list.specs.declared.lines.NotANumber as lines
 use Rattle.bench_list.specs.declared.list.ListFault.{ListFault}
 use Rattle.bench_list.specs.declared.list.ListFault.TheVariants.{NotANumber, TooManyRows}
 use Rattle.bench_list.specs.Lines.{line_of, lines_of, newline}
@@ -37,17 +37,14 @@ module _ (r : Reading) (entry : List ℕ) where
   front now count long few rest =
       sym (take-append-drop count now) ∙ ap (λ d. take count now ++ d) (rest ∙ ap (λ n. drop n entry) (sym (length-take-le count now (omega arith))))
 
-  ended : (f : ListFault) (now : List ℕ) (count : ℕ) → Going r entry now count (refused f) → Read r entry (Err f) now
-  ended f now count g = record {
-    says = sym (ap (λ x. answer_of x.rows x.fault) g.goes);
+  closed : (fault : Option ListFault) (now : List ℕ) (count : ℕ) → Going r entry now count (record { rows = []; fault = fault }) → Read r entry (answer_of (take count now) fault) now
+  closed fault now count g = record {
+    says = sym (ap (λ x. answer_of x.rows x.fault) g.goes ∙ ap (λ xs. answer_of xs fault) (append-nil (take count now)));
     holds = front now count g.long g.few g.rest ∙ sym (ap (λ xs. xs ++ drop (length xs) entry) (ap (λ x. x.rows) g.goes ∙ append-nil (take count now)));
   }
 
   done : (now : List ℕ) (count : ℕ) → Going r entry now count (record { rows = []; fault = None }) → Read r entry (Ok count) now
-  done now count g = record {
-    says = sym (ap (λ x. answer_of x.rows x.fault) g.goes ∙ ap (λ xs. Ok (length xs)) (append-nil (take count now)) ∙ ap Ok (length-take-le count now (omega (arith, g.few, g.long))));
-    holds = front now count g.long g.few g.rest ∙ sym (ap (λ xs. xs ++ drop (length xs) entry) (ap (λ x. x.rows) g.goes ∙ append-nil (take count now)));
-  }
+  done now count g = subst (λ n. Read r entry (Ok n) now) (length-take-le count now (omega (arith, g.few, g.long))) (closed None now count g)
 
   module _ (now : List ℕ) (count line : ℕ) (later : ℕ → Reading) where
     placed : (n : ℕ) → count < length entry → Going r entry now count (row_before n (later (count + 1)))
@@ -63,19 +60,19 @@ module _ (r : Reading) (entry : List ℕ) where
           rest = drop-set-lt (count + 1) now count n (omega arith) ∙ sym (drop-drop 1 count now) ∙ ap (drop 1) g.rest ∙ drop-drop 1 count entry;
         }
 
-    step : (x : Result (Option ℕ) unfit.NotANumber) (answer : Result ℕ ListFault) (after : List ℕ)
+    step : (x : Result (Option ℕ) lines.NotANumber) (answer : Result ℕ ListFault) (after : List ℕ)
         → Going r entry now count (on_line x (length entry) count line later) → Stepped x line count now answer after → Next r entry later answer after
     step (Ok None) answer after g s =
         subst (λ a. Next r entry later a after) (sym s.0) (subst (λ w. Going r entry w count (later count)) (sym s.1) g)
     step (Err e) answer after g s =
-        subst (λ a. Next r entry later a after) (sym s.0) (subst (λ w. Read r entry (Err (NotANumber line)) w) (sym s.1) (ended (NotANumber line) now count g))
+        subst (λ a. Next r entry later a after) (sym s.0) (subst (λ w. Read r entry (Err (NotANumber line)) w) (sym s.1) (closed (Some (NotANumber line)) now count g))
     step (Ok (Some n)) answer after g s = by_room (ltb count (length entry)) refl g (subst (λ m. Placed (ltb count m) n line count now answer after) g.long s)
       where
         by_room : (t : Bool) → ltb count (length entry) ≡ t → Going r entry now count (cond t (row_before n (later (count + 1))) (refused (TooManyRows line (length entry))))
             → Placed t n line count now answer after → Next r entry later answer after
         by_room false e g s =
             subst (λ a. Next r entry later a after) (sym (s.0 ∙ ap (λ m. Err (TooManyRows line m)) g.long))
-            (subst (λ w. Read r entry (Err (TooManyRows line (length entry))) w) (sym s.1) (ended (TooManyRows line (length entry)) now count g))
+            (subst (λ w. Read r entry (Err (TooManyRows line (length entry))) w) (sym s.1) (closed (Some (TooManyRows line (length entry))) now count g))
         by_room true e g s =
             subst (λ a. Next r entry later a after) (sym s.0)
             (subst (λ w. Going r entry w (count + 1) (later (count + 1))) (sym s.1) (placed n (ltb-true count (length entry) e) g))

@@ -1,19 +1,15 @@
 -- Rows that do not rise, counted. Assumes nothing.
-use Rattle.std.proofs.Common.{◌≡◌, ℕ, zero, suc, ◌+◌, ◌-◌, ◌<◌, ◌≤◌, Bool, true, false, cond, ltb, nat_le, List, [], ◌∷◌, length, get_or, take, drop, sym, refl, ap, ◌∙◌, ap₂, add-one, arith, ltb-true, lt-ltb, ne_eqb, count_by}
-use native.Mathlib.Decide.{dec_lt}
+use Rattle.std.proofs.Common.{◌≡◌, ℕ, zero, suc, ◌+◌, ◌<◌, ◌≤◌, Bool, true, cond, ltb, nat_le, List, [], ◌∷◌, length, get_or, take, drop, sym, refl, ap, ◌∙◌, ap₂, add-one, arith, below_more, ltb-true, lt-ltb, count_by}
 use Rattle.std.specs.List.{zip}
 use Rattle.std.proofs.lemmas.Bool.Decides.{nat_tests}
-use Rattle.std.proofs.lemmas.Grind.{get_or_after_one}
+use Rattle.std.proofs.lemmas.Grind.{common_steps}
 use Rattle.std.proofs.lemmas.List.{length-drop, take_all}
 use Rattle.std.proofs.lemmas.List.Sums.{sum_by_more}
 use Rattle.std.proofs.lemmas.Slice.Zip.{get_or-zip, length-zip}
 use Rattle.bench_list.specs.Rising.{Rising, rises_at, breaks_below}
 
 test_at : (xs : List ℕ) (i : ℕ) → rises_at xs (i + 1) ≡ ltb (get_or xs i 0) (get_or xs (i + 1) 0)
-test_at xs i =
-    let back : i + 1 - 1 ≡ i = omega arith in
-    ap (λ t. cond t true (ltb (get_or xs (i + 1 - 1) 0) (get_or xs (i + 1) 0))) (ne_eqb (i + 1) 0 (λ e. omega (arith, e)))
-    ∙ ap (λ j. ltb (get_or xs j 0) (get_or xs (i + 1) 0)) back
+test_at xs i = grind (arith, nat_tests)
 
 -- a row beside the one before it, which it is not above
 abbrev pub falls : ℕ × ℕ → Bool
@@ -26,10 +22,7 @@ falls_or_rises : (a b : ℕ) → cond {A = ℕ} (nat_le b a) 1 0 ≡ cond (ltb a
 falls_or_rises a b = grind (arith, nat_tests)
 
 pair_at : (xs : List ℕ) (i : ℕ) → i + 1 < length xs → get_or (pairs xs) i (0, 0) ≡ (get_or xs i 0, get_or xs (i + 1) 0)
-pair_at xs i within =
-    let next : 1 + i ≡ i + 1 = omega arith in
-    get_or-zip xs (drop 1 xs) i (0, 0) (omega arith) (omega (arith, length-drop 1 xs))
-    ∙ ap (λ n. (get_or xs i 0, n)) (get_or_after_one xs i 0 ∙ ap (λ j. get_or xs j 0) next)
+pair_at xs i within = grind (arith, common_steps, get_or-zip, length-drop {A = ℕ})
 
 one_more : (xs : List ℕ) (n : ℕ) → n + 1 < length xs → count_by falls (take (n + 1) (pairs xs)) ≡ count_by falls (take n (pairs xs)) + cond (rises_at xs (n + 1)) 0 1
 one_more xs n within =
@@ -49,17 +42,13 @@ falls_counted (x ∷ xs) =
     let ps = pairs (x ∷ xs) in
     ap (count_by falls) (sym (take_all (length xs) ps (omega (arith, length-zip (x ∷ xs) xs)))) ∙ first_pairs (x ∷ xs) (length xs) (omega arith)
 
+-- where no row up to n is counted, none before it is, and row n rises
+fewer : (xs : List ℕ) (n : ℕ) → breaks_below xs n + cond (rises_at xs n) 0 1 ≡ 0 → (breaks_below xs n ≡ 0) × (rises_at xs n ≡ true)
+fewer xs n e = grind (arith, nat_tests)
+
 none_below : (xs : List ℕ) (n : ℕ) → breaks_below xs n ≡ 0 → (i : ℕ) → i < n → rises_at xs i ≡ true
 none_below xs zero e i less = absurd (omega arith)
-none_below xs (suc n) e i less = by_test (rises_at xs n) refl (none_below xs n) e
-  where
-    by_test : (t : Bool) → rises_at xs n ≡ t → (breaks_below xs n ≡ 0 → (j : ℕ) → j < n → rises_at xs j ≡ true) → breaks_below xs n + cond t 0 1 ≡ 0 → rises_at xs i ≡ true
-    by_test false is later e = absurd (omega arith)
-    by_test true is later e = decided (dec_lt i n)
-      where
-        decided : Dec (i < n) → rises_at xs i ≡ true
-        decided (yes h) = later (omega (arith, e)) i h
-        decided (no h) = ap (rises_at xs) (omega (arith, h, less)) ∙ is
+none_below xs (suc n) e i less = below_more (λ j. rises_at xs j ≡ true) n (none_below xs n (fewer xs n e).0) (fewer xs n e).1 i (omega arith)
 
 pub rising_of_none : (xs : List ℕ) → breaks_below xs (length xs) ≡ 0 → Rising xs
 rising_of_none xs e i within = ltb-true _ _ (sym (test_at xs i) ∙ none_below xs (length xs) e (i + 1) within)

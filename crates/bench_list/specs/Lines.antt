@@ -42,11 +42,14 @@ small (Some n) = cond (nat_lt n (2 ^ 32)) (Some n) None
 abbrev pub number_of : List ℕ → Option ℕ
 number_of bs = small (decimal_after 0 bs)
 
+abbrev pub unfit : NotANumber
+unfit = record {}
+
 abbrev pub row_of : Option ℕ → Result (Option ℕ) NotANumber
-row_of None = Err (record {})
+row_of None = Err unfit
 row_of (Some n) = Ok (Some n)
 
--- blank lines and lines that begin with # are skipped, which is no row; any other is a number below 2^32 or a fault
+-- blank lines and lines that begin with # are skipped, and are no row; any other is a number below 2^32 or unfit
 abbrev pub text_of : List ℕ → Result (Option ℕ) NotANumber
 text_of bs = cond (all_blank bs) (Ok None) (cond (slice_index bs 0 == 35) (Ok None) (row_of (number_of bs)))
 

@@ -1,6 +1,6 @@
 -- A bench list as lines: its rows, up to the first fault. Assumes nothing.
 use Rattle.std.specs.Prelude.{◌≡◌, ℕ, ◌+◌, Bool, true, false, cond, List, [], ◌∷◌, ◌++◌, length, drop, Some, None, Ok, Err, Option, Result, nat_lt, slice_set, codes, decimal}
-use Rattle.bench_list.specs.declared.lines.NotANumber as unfit
+use Rattle.bench_list.specs.declared.lines.NotANumber as lines
 use Rattle.bench_list.specs.declared.list.ListFault.{ListFault}
 use Rattle.bench_list.specs.declared.list.ListFault.TheVariants.{NotANumber, TooManyRows}
 use Rattle.bench_list.specs.Lines.{line_of}
@@ -16,8 +16,8 @@ refused f = record { rows = []; fault = Some f }
 abbrev pub row_before : ℕ → Reading → Reading
 row_before n later = record { rows = n ∷ later.rows; fault = later.fault }
 
--- a line of that number, with `count` rows before it and places for so many in all; what is later depends on the rows read
-abbrev pub on_line : Result (Option ℕ) unfit.NotANumber → (places count line : ℕ) → (ℕ → Reading) → Reading
+-- a line of that number, with `count` rows before it, where there are so many places in all; what is later depends on the rows read
+abbrev pub on_line : Result (Option ℕ) lines.NotANumber → (places count line : ℕ) → (ℕ → Reading) → Reading
 on_line (Ok None) places count line later = later count
 on_line (Ok (Some n)) places count line later = cond (nat_lt count places) (row_before n (later (count + 1))) (refused (TooManyRows line places))
 on_line (Err e) places count line later = refused (NotANumber line)
@@ -42,7 +42,7 @@ Placed true n line count before answer after = (answer ≡ Ok (count + 1)) × (a
 Placed false n line count before answer after = (answer ≡ Err (TooManyRows line (length before))) × (after ≡ before)
 
 -- one line, with `count` rows before it
-abbrev pub Stepped : Result (Option ℕ) unfit.NotANumber → (line count : ℕ) → List ℕ → Result ℕ ListFault → List ℕ → Type 0
+abbrev pub Stepped : Result (Option ℕ) lines.NotANumber → (line count : ℕ) → List ℕ → Result ℕ ListFault → List ℕ → Type 0
 Stepped (Ok None) line count before answer after = (answer ≡ Ok count) × (after ≡ before)
 Stepped (Ok (Some n)) line count before answer after = Placed (nat_lt count (length before)) n line count before answer after
 Stepped (Err e) line count before answer after = (answer ≡ Err (NotANumber line)) × (after ≡ before)

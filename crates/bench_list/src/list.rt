@@ -11,7 +11,7 @@ use std::fmt;
 #[derive(Clone, Copy, Debug, PartialEq, Eq)]
 pub enum ListFault {
     NotANumber { line: usize },
-    // There are places for so many rows.
+    // The caller's slice has places for so many rows.
     TooManyRows { line: usize, places: usize },
 }
 
