@@ -1,4 +1,6 @@
 // Sponges and transcripts, with the numbers that tools/sponge_vectors.py computes from the rules.
+ghost use Rattle.std.specs.Prelude.{◌<◌, ◌≤◌, length};
+
 #[cfg(test)]
 mod tests {
     use field::traits::{Field, PrimeField};
@@ -8,6 +10,8 @@ mod tests {
     use rehearsal::standing::Standing;
     use residue::moduli::{BabyBear, Seventeen};
     use sponge::{Duplex, Rolling, Sponge};
+    use transcript::challenge::Challenge;
+    use transcript::input::{ConstraintInput, OodInput};
     use transcript::seed::seed_length;
     use transcript::shape::StarkShape;
 
@@ -124,25 +128,26 @@ mod tests {
     };
 
     // A first attempt with one public value is refused and changes nothing.
-    fn asked(sent: Sent, last: u32) -> [Request; 6] {
+    fn asked<F>(sent: Sent, values: &[F], last: u32) -> [Request<'_, F>; 6]
+        requires one { 0 < length values.now }
+        requires enough { sent.count ≤ length values.now }
+    {
         [
-            Request::Constraint {
+            Request::Constraint(ConstraintInput {
                 trace: 5,
                 preprocessed: None,
-                from: 0,
-                count: 1,
-            },
-            Request::Constraint {
+                public_values: &values[0..1],
+            }),
+            Request::Constraint(ConstraintInput {
                 trace: sent.trace,
                 preprocessed: sent.preprocessed,
-                from: 0,
-                count: sent.count,
-            },
-            Request::OutOfDomain {
+                public_values: &values[0..sent.count],
+            }),
+            Request::OutOfDomain(OodInput {
                 quotient: 2,
                 random: sent.random,
                 last,
-            },
+            }),
             Request::Begin,
             Request::End,
             Request::Finish,
@@ -151,38 +156,55 @@ mod tests {
 
     fn drawn_17(end: Standing<Seventeen>) -> Option<(u32, u32, u32)> {
         match end {
-            Standing::Done(alpha, zeta, witness) => Some((alpha.number(), zeta.number(), witness)),
+            Standing::Done(drawn) => Some((
+                drawn.alpha.number(),
+                drawn.zeta.number(),
+                drawn.witness,
+            )),
             _ => None,
         }
     }
 
     fn drawn_pairs(end: Standing<Pair<BabyBear>>) -> Option<([u32; 4], u32)> {
         match end {
-            Standing::Done(alpha, zeta, witness) => Some((
+            Standing::Done(drawn) => Some((
                 [
-                    alpha.base.number(),
-                    alpha.root.number(),
-                    zeta.base.number(),
-                    zeta.root.number(),
+                    drawn.alpha.base.number(),
+                    drawn.alpha.root.number(),
+                    drawn.zeta.base.number(),
+                    drawn.zeta.root.number(),
                 ],
-                witness,
+                drawn.witness,
             )),
             _ => None,
         }
     }
 
-    fn over_17<S: Sponge>(start: S, shape: StarkShape, witness: u32) -> Rehearsal<Seventeen> {
-        let values = [Seventeen::from_u32(3), Seventeen::from_u32(5)];
+    // A prover's budget is 100.
+    fn rehearsed<S: Sponge, F: PrimeField, E: Challenge<F>>(
+        start: S,
+        shape: StarkShape,
+        sent: Sent,
+        values: &[F],
+        witness: u32,
+    ) -> Rehearsal<E>
+        requires one { 0 < length values.now }
+        requires enough { sent.count ≤ length values.now }
+    {
         let mut prover = start;
         let mut verifier = start;
-        rehearse::<S, Seventeen, Seventeen>(
+        rehearse::<S, F, E>(
             &mut prover,
             &mut verifier,
             shape,
-            &asked(PLAIN, 100),
-            &asked(PLAIN, witness),
-            &values,
+            &asked(sent, values, 100),
+            &asked(sent, values, witness),
         )
+    }
+
+    fn over_17<S: Sponge>(start: S, shape: StarkShape, witness: u32) -> Rehearsal<Seventeen> {
+        let values = [Seventeen::from_u32(3), Seventeen::from_u32(5)];
+        rehearsed::<S, Seventeen, Seventeen>(start, shape, PLAIN, &values, witness)
     }
 
     fn over_pairs<S: Sponge>(
@@ -190,18 +212,11 @@ mod tests {
         shape: StarkShape,
         sent: Sent,
         witness: u32,
-    ) -> Rehearsal<Pair<BabyBear>> {
+    ) -> Rehearsal<Pair<BabyBear>>
+        requires { sent.count ≤ 2 }
+    {
         let values = [BabyBear::from_u32(3), BabyBear::from_u32(5)];
-        let mut prover = start;
-        let mut verifier = start;
-        rehearse::<S, BabyBear, Pair<BabyBear>>(
-            &mut prover,
-            &mut verifier,
-            shape,
-            &asked(sent, 100),
-            &asked(sent, witness),
-            &values,
-        )
+        rehearsed::<S, BabyBear, Pair<BabyBear>>(start, shape, sent, &values, witness)
     }
 
     #[test]
@@ -281,25 +296,22 @@ mod tests {
         let values = [Seventeen::from_u32(3), Seventeen::from_u32(5)];
         let mut prover = Rolling::new();
         let mut verifier = Rolling::new();
-        let unexpected = [Request::Constraint {
+        let unexpected = [Request::Constraint(ConstraintInput {
             trace: 1,
             preprocessed: Some(4),
-            from: 0,
-            count: 2,
-        }];
-        let miscounted = [Request::Constraint {
+            public_values: &values,
+        })];
+        let miscounted = [Request::Constraint(ConstraintInput {
             trace: 1,
             preprocessed: Some(4),
-            from: 0,
-            count: 1,
-        }];
+            public_values: &values[0..1],
+        })];
         let both = rehearse::<Rolling, Seventeen, Seventeen>(
             &mut prover,
             &mut verifier,
             shape(0),
             &unexpected,
             &miscounted,
-            &values,
         );
         assert_eq!(rt; failure(both.prover), Some(28));
         assert!(rt; matches!(both.verifier, Standing::Start));

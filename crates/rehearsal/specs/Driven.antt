@@ -7,8 +7,9 @@ use Rattle.transcript.specs.Schedule.{sent}
 use Rattle.transcript.specs.declared.shape.StarkShape.{StarkShape}
 use Rattle.ends.specs.Ends.{end_of}
 use Rattle.rehearsal.specs.Runs.{Call, constraint, out_of_domain, opening, closing, finish, Bracket, opened, closed, finished, Stand, start, mid, ready, bracketed, stopped, halted, sponge_of, call}
-use Rattle.rehearsal.specs.declared.request.Request.{Request}
-use Rattle.rehearsal.specs.declared.request.Request.TheVariants as Q
+use Rattle.rehearsal.specs.declared.request.RequestOf.{RequestOf}
+use Rattle.transcript.specs.declared.input.ConstraintInput.{ConstraintInput}
+use Rattle.rehearsal.specs.declared.request.RequestOf.TheVariants as Q
 use Rattle.rehearsal.specs.declared.standing.Drawn.{Drawn}
 use Rattle.rehearsal.specs.declared.standing.Standing.{Standing}
 use Rattle.rehearsal.specs.declared.standing.Standing.TheVariants as T
@@ -16,7 +17,7 @@ use Rattle.rehearsal.specs.declared.run.Run.{Run}
 use Rattle.rehearsal.specs.declared.run.Run.TheVariants as E
 
 -- the call that a request means, over the values by their numbers
-abbrev pub meant : {F : Type 0} → (F → ℕ) → Request F → Call
+abbrev pub meant : {F : Type 0} → (F → ℕ) → RequestOf (ConstraintInput F) → Call
 meant number (Q.Constraint input) = constraint (sent number input)
 meant number (Q.OutOfDomain input) = out_of_domain input.quotient input.random input.last
 meant number Q.Begin = opening

@@ -37,12 +37,11 @@ fn step_count(shape: &StarkShape) -> usize
 }
 
 // One step of the description, where the shape has it: its code and its length.
-fn take_step<S: Sponge>(sponge: &mut S, code: usize, length: Option<u64>)
-    requires { code ≤ 10 }
+fn take_step<S: Sponge>(sponge: &mut S, code: u32, length: Option<u64>)
     ensures { sponge.new ≡ takes S.steps (part code length) sponge.old }
 {
     if let Some(length) = length {
-        sponge.take(code as u32);
+        sponge.take(code);
         take_number(sponge, length);
     }
 }
@@ -52,7 +51,7 @@ fn take_steps<S: Sponge>(sponge: &mut S, shape: &StarkShape)
 {
     take_number(sponge, step_count(shape) as u64);
     for (place, length) in step_lengths(shape).iter().enumerate() {
-        take_step(sponge, place + 1, *length);
+        take_step(sponge, place as u32 + 1, *length);
     }
 }
 
