@@ -1,6 +1,5 @@
 pub mod Embedding
 pub mod Logs
-pub mod Nonzeros
 pub mod Fronted
 pub mod Ratios
 pub mod Sampled

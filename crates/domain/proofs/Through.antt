@@ -34,7 +34,7 @@ module _ {F E : Type 0} (base : FieldMeaning F) (above : FieldMeaning E) (over :
   later_all (x ∷ xs) = ap (λ ps. e x ∷ ps) (later_tail x xs 0 (length xs) ∙ later_all xs)
 
   module _ (points column : List F) where
-    length_samples : (i n : ℕ) → length (samples base above over points column i n) ≡ n
+    pub length_samples : (i n : ℕ) → length (samples base above over points column i n) ≡ n
     length_samples i zero = refl
     length_samples i (suc n) = ap suc (length_samples (suc i) n)
 
@@ -77,7 +77,7 @@ module _ {F E : Type 0} (base : FieldMeaning F) (above : FieldMeaning E) (over :
           let P : List E → Type 0 = λ ps. Distinct ps in
           subst P (sym (abscissas_samples base above over points column 0 (length points) ∙ later_all points)) (keeps_distinct points distinct)
 
-      takes : (i : ℕ) → i < length points
+      pub takes : (i : ℕ) → i < length points
           → interpolated base above over points column (raised base over points i) ≡ raised base over column (i % length column)
       takes i less =
           let all = lagrange_values (division above.laws) (samples base above over points column 0 (length points)) distinct_samples in
