@@ -11,14 +11,11 @@ use field::traits::Field;
 fn byte<R: Rows>(rows: &R) -> R::Expr
     ensures { result ≡ meaning R.Expr.Algebra.operations (R.reads rows.now) the_byte }
 {
-    rows.number(1) * rows.main(1)
-        + rows.number(2) * rows.main(2)
-        + rows.number(4) * rows.main(3)
-        + rows.number(8) * rows.main(4)
-        + rows.number(16) * rows.main(5)
-        + rows.number(32) * rows.main(6)
-        + rows.number(64) * rows.main(7)
-        + rows.number(128) * rows.main(8)
+    let mut sum = rows.number(1) * rows.main(1);
+    for bit in 1..8usize {
+        sum = sum + rows.number(1 << bit) * rows.main(bit + 1);
+    }
+    sum
 }
 
 #[derive(Clone, Copy)]

@@ -21,8 +21,8 @@ fn bit<F: Field>(n: u32, weight: u32) -> F
 pub fn station_row<F: Field>(station: u32, next: u32) -> StationRow<F>
     ensures { result.cells ≡ nat F.ops station ∷ map (λ w. nat F.ops (gap station next / w % 2)) weights }
 {
-    // The cells are written out as the clause lists them: made by index, each would need its column's bound and its weight's power.
     let n = next.saturating_sub(station).saturating_sub(1) % 256;
+    // Written out: an array's `map` over the words gets no proof for a function whose result alone names the type.
     StationRow {
         cells: [
             F::from_u32(station),
