@@ -1,5 +1,10 @@
 -- The polynomial through a column on a coset as a sum of powers of w / point. Assumes nothing.
 use Rattle.std.proofs.Common.{◌≡◌, ℕ, zero, suc, ◌+◌, ◌%◌, ◌^◌, ◌<◌, ◌≤◌, ◌≢◌, List, [], ◌∷◌, length, get_or, sym, refl, ap, ◌∙◌, ap₂, le_refl, mod-eq_of_lt, mul_comm, zero-add, arith}
+use Rattle.std.specs.declared.cmp.PartialEq.{Ghosts as PartialEqMeaning}
+use Rattle.std.specs.declared.ops.Add.{Ghosts as AddMeaning}
+use Rattle.std.specs.declared.ops.Mul.{Ghosts as MulMeaning}
+use Rattle.std.specs.declared.ops.Neg.{Ghosts as NegMeaning}
+use Rattle.std.specs.declared.ops.Sub.{Ghosts as SubMeaning}
 use Rattle.algebra.specs.Ring.{RingOps, RingLaws, pow, nat, sub}
 use Rattle.algebra.specs.Field.{total}
 use Rattle.algebra.specs.Polynomial.{Each, Distinct, eval, scaled}
@@ -67,7 +72,7 @@ module _ {F E : Type 0} (two : TwoAdicMeaning F) (prime : PrimeMeaning F) (field
       let two : 𝟙 ⊕ 𝟙 ≡ 𝟘 = zero_of_product (division field.laws) m (𝟙 ⊕ 𝟙) (size_nonzero b) halves in
       adic.minus (ring_from field.laws.ring [] (fact two) (search shapes depth 20) tt)
 
-  module _ (d : Coset F E two prime field) where
+  module _ {eqs : PartialEqMeaning F} {adds : AddMeaning F F F} {subs : SubMeaning F F F} {muls : MulMeaning F F F} {negs : NegMeaning F F} (d : Coset F E two prime field eqs adds subs muls negs) where
     abbrev n : ℕ
     n = 2 ^ d.bits
 

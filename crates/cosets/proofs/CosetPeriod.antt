@@ -1,6 +1,11 @@
 -- A periodic column on a coset is a column on a smaller one, at a power of z. Assumes nothing.
 use Rattle.std.proofs.Common.{◌≡◌, ℕ, suc, ◌+◌, ◌-◌, ◌*◌, ◌/◌, ◌%◌, ◌^◌, ◌<◌, ◌≤◌, List, length, get_or, sym, ap, ◌∙◌, le_refl, mod-lt, mul_comm, mul-le-mul, zero-add, arith, pow_pos, pow-add as power_add}
 use native.Mathlib.Nat.{div-add-mod, mod-mod}
+use Rattle.std.specs.declared.cmp.PartialEq.{Ghosts as PartialEqMeaning}
+use Rattle.std.specs.declared.ops.Add.{Ghosts as AddMeaning}
+use Rattle.std.specs.declared.ops.Mul.{Ghosts as MulMeaning}
+use Rattle.std.specs.declared.ops.Neg.{Ghosts as NegMeaning}
+use Rattle.std.specs.declared.ops.Sub.{Ghosts as SubMeaning}
 use Rattle.algebra.specs.Ring.{pow}
 use Rattle.algebra.specs.Field.{total}
 use Rattle.algebra.specs.Polynomial.{eval}
@@ -43,7 +48,7 @@ module _ {F E : Type 0} (two : TwoAdicMeaning F) (prime : PrimeMeaning F) (field
       ∙ ap (λ x. f.mul x (pow f r (i % n))) (pow_pow field.laws.ring r n (i / n) ∙ ap (λ x. pow f x (i / n)) (root_whole field.laws.ring adic l l (le_refl l) within) ∙ pow_one field.laws.ring (i / n))
       ∙ one-mul field.laws.ring (pow f r (i % n))
 
-  module _ (d small : Coset F E two prime field) (column : List F) (less : small.bits ≤ d.bits) (size : length column ≡ 2 ^ small.bits)
+  module _ {eqs : PartialEqMeaning F} {adds : AddMeaning F F F} {subs : SubMeaning F F F} {muls : MulMeaning F F F} {negs : NegMeaning F F} (d small : Coset F E two prime field eqs adds subs muls negs) (column : List F) (less : small.bits ≤ d.bits) (size : length column ≡ 2 ^ small.bits)
       (turned : small.shift ≡ pow field.ops d.shift (2 ^ (d.bits - small.bits))) where
     abbrev l : ℕ
     l = small.bits

@@ -1,5 +1,10 @@
 -- The selectors of a coset times what they were divided by. Assumes nothing.
 use Rattle.std.proofs.Common.{◌≡◌, ℕ, ◌^◌, ◌≢◌, [], ◌∷◌, Some, None, Option, sym, refl, ap, ◌∙◌, subst, le_refl, arith}
+use Rattle.std.specs.declared.cmp.PartialEq.{Ghosts as PartialEqMeaning}
+use Rattle.std.specs.declared.ops.Add.{Ghosts as AddMeaning}
+use Rattle.std.specs.declared.ops.Mul.{Ghosts as MulMeaning}
+use Rattle.std.specs.declared.ops.Neg.{Ghosts as NegMeaning}
+use Rattle.std.specs.declared.ops.Sub.{Ghosts as SubMeaning}
 use Rattle.algebra.specs.Ring.{pow, sub}
 use Rattle.algebra.specs.Field.{total}
 use Rattle.algebra.proofs.FieldBasics.{division, sub_ne_zero}
@@ -20,8 +25,8 @@ use Rattle.domain.specs.declared.selectors.Selectors.{Selectors}
 use Rattle.domain.specs.Selected.{selected}
 use Rattle.domain.proofs.Embedding.{keeps_pow}
 
-module _ {F E : Type 0} (two : TwoAdicMeaning F) (prime : PrimeMeaning F) (field : FieldMeaning F) (adic : TwoAdicLaws field.ops two.generated two.odd two.bits two.apart)
-    (above : FieldMeaning E) (over : ExtensionMeaning E F) (extends : Extends field.ops above.ops over.embedded over.basis) (d : Coset F E two prime field) (z : E) where
+module _ {F E : Type 0} (two : TwoAdicMeaning F) (prime : PrimeMeaning F) (field : FieldMeaning F) {eqs : PartialEqMeaning F} {adds : AddMeaning F F F} {subs : SubMeaning F F F} {muls : MulMeaning F F F} {negs : NegMeaning F F} (adic : TwoAdicLaws field.ops two.generated two.odd two.bits two.apart)
+    (above : FieldMeaning E) (over : ExtensionMeaning E F) (extends : Extends field.ops above.ops over.embedded over.basis) (d : Coset F E two prime field eqs adds subs muls negs) (z : E) where
   open above use {ops as o}
   open over use {embedded as e}
   open o use {zero as 𝟘, one as 𝟙, add as ◌⊕◌, mul as ◌⊗◌, neg as ⊖◌}

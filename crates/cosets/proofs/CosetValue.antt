@@ -1,5 +1,10 @@
 -- The vanishing value of a coset. Assumes nothing.
 use Rattle.std.proofs.Common.{◌≡◌, ◌^◌, [], ◌∷◌, map, sym, ap, ◌∙◌, ap₂}
+use Rattle.std.specs.declared.cmp.PartialEq.{Ghosts as PartialEqMeaning}
+use Rattle.std.specs.declared.ops.Add.{Ghosts as AddMeaning}
+use Rattle.std.specs.declared.ops.Mul.{Ghosts as MulMeaning}
+use Rattle.std.specs.declared.ops.Neg.{Ghosts as NegMeaning}
+use Rattle.std.specs.declared.ops.Sub.{Ghosts as SubMeaning}
 use Rattle.algebra.specs.Ring.{pow, sub}
 use Rattle.algebra.specs.Field.{total}
 use Rattle.algebra.specs.Domain.{vanishing}
@@ -19,12 +24,12 @@ use Rattle.cosets.specs.Coset.{step_of, points_of, scale_of, vanish_of}
 use Rattle.domain.specs.Selected.{vanishing_at}
 use Rattle.domain.proofs.Embedding.{keeps_pow, keeps_turn, keeps_coset}
 
-module _ {F E : Type 0} (two : TwoAdicMeaning F) (prime : PrimeMeaning F) (field : FieldMeaning F) (adic : TwoAdicLaws field.ops two.generated two.odd two.bits two.apart)
+module _ {F E : Type 0} (two : TwoAdicMeaning F) (prime : PrimeMeaning F) (field : FieldMeaning F) {eqs : PartialEqMeaning F} {adds : AddMeaning F F F} {subs : SubMeaning F F F} {muls : MulMeaning F F F} {negs : NegMeaning F F} (adic : TwoAdicLaws field.ops two.generated two.odd two.bits two.apart)
     (above : FieldMeaning E) (over : ExtensionMeaning E F) (extends : Extends field.ops above.ops over.embedded over.basis) where
   open above use {ops as o}
   open over use {embedded}
 
-  pub coset_value : (d : Coset F E two prime field) (z : E) → vanish_of above over d z ≡ vanishing_at o embedded (scale_of d) (points_of d) z
+  pub coset_value : (d : Coset F E two prime field eqs adds subs muls negs) (z : E) → vanish_of above over d z ≡ vanishing_at o embedded (scale_of d) (points_of d) z
   coset_value d z =
       let n = 2 ^ d.bits in
       let c = d.shift in

@@ -31,14 +31,14 @@ fn step<F: TwoAdic, E: Copy>(d: Coset<F, E>) -> F
 fn turned_by<F: TwoAdic, E: Copy>(d: Coset<F, E>, i: usize) -> F
     ensures { result ≡ F.Field.ops.mul d.shift (pow F.Field.ops (step_of d) i) }
 {
-    d.shift.mul(powers::power(step(d), i))
+    d.shift * powers::power(step(d), i)
 }
 
 // The shift of a coset that has no point of d.
 fn outside<F: TwoAdic, E: Copy>(d: Coset<F, E>) -> F
     ensures { result ≡ F.Field.ops.mul F.TwoAdic.generated d.shift }
 {
-    F::generator().mul(d.shift)
+    F::generator() * d.shift
 }
 
 fn at<F: TwoAdic, E: Copy>(shift: F, bits: u32) -> Coset<F, E>
@@ -93,21 +93,21 @@ pub fn natural<F: TwoAdic, E: Extension<F>>(bits: u32) -> Option<Coset<F, E>>
 
 // z over the shift.
 fn turned<F: TwoAdic, E: Extension<F>>(d: Coset<F, E>, z: E) -> E
-    ensures { result ≡ turned_of E.Field E.Extension.own d z }
+    ensures { result ≡ turned_of E.Field.own E.Extension.own d z }
 {
-    z.mul(E::embed(powers::inverse_or_zero(d.shift)))
+    z * E::embed(powers::inverse_or_zero(d.shift))
 }
 
 fn vanish<F: TwoAdic, E: Extension<F>>(d: Coset<F, E>, z: E) -> E
-    ensures { result ≡ vanish_of E.Field E.Extension.own d z }
+    ensures { result ≡ vanish_of E.Field.own E.Extension.own d z }
 {
-    powers::squared(turned(d, z), d.bits).sub(E::one())
+    powers::squared(turned(d, z), d.bits) - E::one()
 }
 
 // The selectors at z; where they are present, u is neither 1 nor 1/g, and first and last times what they were divided by is V.
 pub fn selectors<F: TwoAdic, E: Extension<F>>(d: Coset<F, E>, z: E) -> Option<Selectors<E>>
-    ensures value { result ≡ selected (first_of E.Field E.Extension.own d z) (last_of E.Field E.Extension.own d z) (transition_of E.Field E.Extension.own d z) (E.Field.inverted (vanish_of E.Field E.Extension.own d z)) }
-    ensures divided { (s : Selectors E) → result ≡ Some s → Divided E.Field E.Extension.own d z s }
+    ensures value { result ≡ selected (first_of E.Field.own E.Extension.own d z) (last_of E.Field.own E.Extension.own d z) (transition_of E.Field.own E.Extension.own d z) (E.Field.inverted (vanish_of E.Field.own E.Extension.own d z)) }
+    ensures divided { (s : Selectors E) → result ≡ Some s → Divided E.Field.own E.Extension.own d z s }
 {
     let v = vanish(d, z);
     let inverse = v.inverse()?;
@@ -119,10 +119,10 @@ pub fn selectors<F: TwoAdic, E: Extension<F>>(d: Coset<F, E>, z: E) -> Option<Se
 fn chosen<E: Field>(v: E, u: E, back: E, inverse: E) -> Selectors<E>
     ensures { result ≡ record { first = E.ops.mul v (total E.ops E.inverted (sub E.ops u E.ops.one)); last = E.ops.mul v (total E.ops E.inverted (sub E.ops u back)); transition = sub E.ops u back; inverse = inverse } }
 {
-    let transition = u.sub(back);
+    let transition = u - back;
     Selectors {
-        first: v.mul(powers::inverse_or_zero(u.sub(E::one()))),
-        last: v.mul(powers::inverse_or_zero(transition)),
+        first: v * powers::inverse_or_zero(u - E::one()),
+        last: v * powers::inverse_or_zero(transition),
         transition,
         inverse,
     }
@@ -137,13 +137,13 @@ impl<F: TwoAdic, E: Extension<F>> Domain for Coset<F, E> {
 
     ghost scale = { scale_of };
 
-    ghost first = { first_of E.Field E.Extension.own };
+    ghost first = { first_of E.Field.own E.Extension.own };
 
-    ghost last = { last_of E.Field E.Extension.own };
+    ghost last = { last_of E.Field.own E.Extension.own };
 
-    ghost transition = { transition_of E.Field E.Extension.own };
+    ghost transition = { transition_of E.Field.own E.Extension.own };
 
-    ghost following = { following_of E.Field E.Extension.own };
+    ghost following = { following_of E.Field.own E.Extension.own };
 
     ghost beside = { beside_of };
 
@@ -151,17 +151,17 @@ impl<F: TwoAdic, E: Extension<F>> Domain for Coset<F, E> {
 
     ghost degree = { 0 };
 
-    ghost distinct = { coset_points_distinct F.TwoAdic.own F.PrimeField.own F.Field F.TwoAdic.adic };
+    ghost distinct = { coset_points_distinct F.TwoAdic.own F.PrimeField.own F.Field.own F.TwoAdic.adic };
 
-    ghost doubled = { coset_doubled F.TwoAdic.own F.PrimeField.own F.Field F.TwoAdic.adic };
+    ghost doubled = { coset_doubled F.TwoAdic.own F.PrimeField.own F.Field.own F.TwoAdic.adic };
 
-    ghost scaled = { coset_scaled F.TwoAdic.own F.PrimeField.own F.Field F.TwoAdic.adic };
+    ghost scaled = { coset_scaled F.TwoAdic.own F.PrimeField.own F.Field.own F.TwoAdic.adic };
 
-    ghost separate = { coset_separate F.TwoAdic.own F.PrimeField.own F.Field F.TwoAdic.adic };
+    ghost separate = { coset_separate F.TwoAdic.own F.PrimeField.own F.Field.own F.TwoAdic.adic };
 
-    ghost parted = { coset_parted F.TwoAdic.own F.PrimeField.own F.Field F.TwoAdic.adic };
+    ghost parted = { coset_parted F.TwoAdic.own F.PrimeField.own F.Field.own F.TwoAdic.adic };
 
-    ghost unparted = { coset_unparted F.TwoAdic.own F.PrimeField.own F.Field F.TwoAdic.adic };
+    ghost unparted = { coset_unparted F.TwoAdic.own F.PrimeField.own F.Field.own F.TwoAdic.adic };
 
     fn size(self) -> usize {
         1 << self.bits
@@ -187,7 +187,7 @@ impl<F: TwoAdic, E: Extension<F>> Domain for Coset<F, E> {
     }
 
     fn next_point(self, z: E) -> Option<E> {
-        Some(E::embed(step(self)).mul(z))
+        Some(E::embed(step(self)) * z)
     }
 
     fn disjoint(self, size: usize) -> Option<Self> {

@@ -4,6 +4,11 @@ use Rattle.std.proofs.Props.{props}
 use native.Mathlib.Decide.{dec_le}
 use native.Mathlib.Nat.{div-add-mod}
 use borrow.Author.Tests.{both_ways}
+use Rattle.std.specs.declared.cmp.PartialEq.{Ghosts as PartialEqMeaning}
+use Rattle.std.specs.declared.ops.Add.{Ghosts as AddMeaning}
+use Rattle.std.specs.declared.ops.Mul.{Ghosts as MulMeaning}
+use Rattle.std.specs.declared.ops.Neg.{Ghosts as NegMeaning}
+use Rattle.std.specs.declared.ops.Sub.{Ghosts as SubMeaning}
 use Rattle.algebra.specs.Ring.{pow}
 use Rattle.algebra.specs.Field.{total}
 use Rattle.algebra.specs.Polynomial.{Distinct}
@@ -77,32 +82,32 @@ module _ {F : Type 0} (two : TwoAdicMeaning F) (prime : PrimeMeaning F) (field :
         points = λ j small. at j (omega (arith, small, part_length));
       }
 
-  module _ {E : Type 0} where
-    pub step_nonzero : (d : Coset F E two prime field) → step_of d ≢ 𝟘
+  module _ {E : Type 0} {eqs : PartialEqMeaning F} {adds : AddMeaning F F F} {subs : SubMeaning F F F} {muls : MulMeaning F F F} {negs : NegMeaning F F} where
+    pub step_nonzero : (d : Coset F E two prime field eqs adds subs muls negs) → step_of d ≢ 𝟘
     step_nonzero d = pow_ne_zero (division laws) laws.one_ne_zero generated adic.nonzero (odd * 2 ^ (most - d.bits))
 
-    pub coset_points_distinct : (d : Coset F E two prime field) → Distinct (points_of d)
+    pub coset_points_distinct : (d : Coset F E two prime field eqs adds subs muls negs) → Distinct (points_of d)
     coset_points_distinct d =
         coset_distinct (division laws) adic.minus d.bits (step_of d) d.shift (root_turn laws.ring adic d.bits d.fits) d.shifted
 
-    pub coset_length : (d : Coset F E two prime field) → length (points_of d) ≡ 2 ^ d.bits
+    pub coset_length : (d : Coset F E two prime field eqs adds subs muls negs) → length (points_of d) ≡ 2 ^ d.bits
     coset_length d = length_coset_from ops d.shift (step_of d) 0 (2 ^ d.bits)
 
-    pub coset_doubled : (d : Coset F E two prime field) → PowerOfTwo (length (points_of d))
+    pub coset_doubled : (d : Coset F E two prime field eqs adds subs muls negs) → PowerOfTwo (length (points_of d))
     coset_doubled d = record { log = d.bits; is = coset_length d }
 
-    pub coset_scaled : (d : Coset F E two prime field) → scale_of d ≢ 𝟘
+    pub coset_scaled : (d : Coset F E two prime field eqs adds subs muls negs) → scale_of d ≢ 𝟘
     coset_scaled d = pow_ne_zero (division laws) laws.one_ne_zero (total ops inverted d.shift) (inverse_nonzero d.shift d.shifted) (2 ^ d.bits)
 
     -- a coset is fixed by its shift and its size
     pub same_coset : {x : F} {b : ℕ} (s t : x ≢ 𝟘) (v w : b ≤ most)
-        → ◌≡◌ {A = Coset F E two prime field} (record { shift = x; bits = b; above = record {}; shifted = s; fits = v }) (record { shift = x; bits = b; above = record {}; shifted = t; fits = w })
+        → ◌≡◌ {A = Coset F E two prime field eqs adds subs muls negs} (record { shift = x; bits = b; above = record {}; shifted = s; fits = v }) (record { shift = x; bits = b; above = record {}; shifted = t; fits = w })
     same_coset {x} {b} s t v w =
         let shifted : IsProp (x ≢ 𝟘) = hlevel props in
         let fits : IsProp (b ≤ most) = hlevel props in
         λ i. record { shift = x; bits = b; above = record {}; shifted = shifted s t i; fits = fits v w i }
 
-    pub made_own : (d : Coset F E two prime field) → made d.shift d.bits ≡ Some d
+    pub made_own : (d : Coset F E two prime field eqs adds subs muls negs) → made d.shift d.bits ≡ Some d
     made_own d = by_tests (dec_zero laws d.shift) (dec_le d.bits most)
       where
         by_tests : (z : Dec (d.shift ≡ 𝟘)) (w : Dec (d.bits ≤ most)) → made_by d.shift d.bits z w ≡ Some d
@@ -110,30 +115,30 @@ module _ {F : Type 0} (two : TwoAdicMeaning F) (prime : PrimeMeaning F) (field :
         by_tests (no s) (no w) = absurd (w d.fits)
         by_tests (no s) (yes w) = ap Some (same_coset s d.shifted w d.fits)
 
-    pub made_from : (d : Coset F E two prime field) (x : F) (b : ℕ) → d.shift ≡ x → d.bits ≡ b → Some d ≡ made x b
+    pub made_from : (d : Coset F E two prime field eqs adds subs muls negs) (x : F) (b : ℕ) → d.shift ≡ x → d.bits ≡ b → Some d ≡ made x b
     made_from d x b p q = sym (made_own d) ∙ ap₂ made p q
 
-    pub record Made (e : Coset F E two prime field) (x : F) (b : ℕ) : Type 0 where
+    pub record Made (e : Coset F E two prime field eqs adds subs muls negs) (x : F) (b : ℕ) : Type 0 where
       pub shift : e.shift ≡ x
       pub bits : e.bits ≡ b
 
-    pub made_is : (x : F) (b : ℕ) (e : Coset F E two prime field) → made x b ≡ Some e → Made e x b
+    pub made_is : (x : F) (b : ℕ) (e : Coset F E two prime field eqs adds subs muls negs) → made x b ≡ Some e → Made e x b
     made_is x b e = by_tests (dec_zero laws x) (dec_le b most)
       where
         by_tests : (z : Dec (x ≡ 𝟘)) (w : Dec (b ≤ most)) → made_by x b z w ≡ Some e → Made e x b
         by_tests (yes z) w f = let z : ◌≡◌ {A = ℕ} 0 1 = cc in absurd (omega arith)
         by_tests (no s) (no w) f = let z : ◌≡◌ {A = ℕ} 0 1 = cc in absurd (omega arith)
         by_tests (no s) (yes w) f =
-            let shift_in : Option (Coset F E two prime field) → F = λ r. elim r [ None ↦ x | Some d ↦ d.shift ] in
-            let bits_in : Option (Coset F E two prime field) → ℕ = λ r. elim r [ None ↦ b | Some d ↦ d.bits ] in
+            let shift_in : Option (Coset F E two prime field eqs adds subs muls negs) → F = λ r. elim r [ None ↦ x | Some d ↦ d.shift ] in
+            let bits_in : Option (Coset F E two prime field eqs adds subs muls negs) → ℕ = λ r. elim r [ None ↦ b | Some d ↦ d.bits ] in
             record { shift = sym (ap shift_in f); bits = sym (ap bits_in f) }
 
     -- the points of what is made
-    pub made_points : (x : F) (b : ℕ) (e : Coset F E two prime field) → made x b ≡ Some e → points_of e ≡ coset ops x (turn b) (2 ^ b)
+    pub made_points : (x : F) (b : ℕ) (e : Coset F E two prime field eqs adds subs muls negs) → made x b ≡ Some e → points_of e ≡ coset ops x (turn b) (2 ^ b)
     made_points x b e f = let found = made_is x b e f in ap₂ (λ c m. coset ops c (turn m) (2 ^ m)) found.shift found.bits
 
     -- what the constructor answers
-    pub placed_points : (x : F) (size : ℕ) (d : Coset F E two prime field) → placed x size ≡ Some d
+    pub placed_points : (x : F) (size : ℕ) (d : Coset F E two prime field eqs adds subs muls negs) → placed x size ≡ Some d
         → (bits : ℕ) × (size ≡ 2 ^ bits) × (points_of d ≡ coset ops x (turn bits) size)
     placed_points x size d = by_log (log_within most size) refl
       where
@@ -144,7 +149,7 @@ module _ {F : Type 0} (two : TwoAdicMeaning F) (prime : PrimeMeaning F) (field :
             let found = log_some size 0 (suc most) b at in
             (b, found.is, made_points x b d f ∙ ap (coset ops x (turn b)) (sym found.is))
 
-    pub coset_separate : (d e : Coset F E two prime field) (n : ℕ) → beside_of d n ≡ Some e → (length (points_of e) ≡ n) × Apart (points_of d) (points_of e)
+    pub coset_separate : (d e : Coset F E two prime field eqs adds subs muls negs) (n : ℕ) → beside_of d n ≡ Some e → (length (points_of e) ≡ n) × Apart (points_of d) (points_of e)
     coset_separate d e n = by_log (log_within apart n) refl
       where
         by_log : (r : Option ℕ) → log_within apart n ≡ r → beside_by d r ≡ Some e → (length (points_of e) ≡ n) × Apart (points_of d) (points_of e)
@@ -152,7 +157,7 @@ module _ {F : Type 0} (two : TwoAdicMeaning F) (prime : PrimeMeaning F) (field :
         by_log (Some b) is f = by_test (leb d.bits apart) refl f
           where
             by_test : (u : Bool) → leb d.bits apart ≡ u
-                → elim u as (λ _. Option (Coset F E two prime field)) [ true ↦ made (generated ⊗ d.shift) b | false ↦ None ] ≡ Some e
+                → elim u as (λ _. Option (Coset F E two prime field eqs adds subs muls negs)) [ true ↦ made (generated ⊗ d.shift) b | false ↦ None ] ≡ Some e
                 → (length (points_of e) ≡ n) × Apart (points_of d) (points_of e)
             by_test false at f = let z : ◌≡◌ {A = ℕ} 0 1 = cc in absurd (omega arith)
             by_test true at f =
@@ -169,7 +174,7 @@ module _ {F : Type 0} (two : TwoAdicMeaning F) (prime : PrimeMeaning F) (field :
                       adic.escapes (2 ^ d.bits) (2 ^ b)),
                 )
 
-    pub coset_parted : (d e : Coset F E two prime field) (i k : ℕ) → pieces_of d i k ≡ Some e → PieceOf 𝟘 (points_of d) i k (points_of e)
+    pub coset_parted : (d e : Coset F E two prime field eqs adds subs muls negs) (i k : ℕ) → pieces_of d i k ≡ Some e → PieceOf 𝟘 (points_of d) i k (points_of e)
     coset_parted d e i k = by_log (log_within d.bits k) refl
       where
         by_log : (r : Option ℕ) → log_within d.bits k ≡ r → piece_by d i k r ≡ Some e → PieceOf 𝟘 (points_of d) i k (points_of e)
@@ -177,7 +182,7 @@ module _ {F : Type 0} (two : TwoAdicMeaning F) (prime : PrimeMeaning F) (field :
         by_log (Some l) is f = by_test (ltb i k) refl f
           where
             by_test : (u : Bool) → ltb i k ≡ u
-                → elim u as (λ _. Option (Coset F E two prime field)) [ true ↦ made (d.shift ⊗ pow ops (step_of d) i) (d.bits - l) | false ↦ None ] ≡ Some e
+                → elim u as (λ _. Option (Coset F E two prime field eqs adds subs muls negs)) [ true ↦ made (d.shift ⊗ pow ops (step_of d) i) (d.bits - l) | false ↦ None ] ≡ Some e
                 → PieceOf 𝟘 (points_of d) i k (points_of e)
             by_test false at f = let z : ◌≡◌ {A = ℕ} 0 1 = cc in absurd (omega arith)
             by_test true at f =
@@ -191,10 +196,10 @@ module _ {F : Type 0} (two : TwoAdicMeaning F) (prime : PrimeMeaning F) (field :
                 subst P (sym points) (subst Q (sym found.is) (piece_points d.shift d.bits l i (omega (arith, found.below)) d.fits below'))
 
     -- the shift of a piece
-    pub point_nonzero : (d : Coset F E two prime field) (i : ℕ) → d.shift ⊗ pow ops (step_of d) i ≢ 𝟘
+    pub point_nonzero : (d : Coset F E two prime field eqs adds subs muls negs) (i : ℕ) → d.shift ⊗ pow ops (step_of d) i ≢ 𝟘
     point_nonzero d i = product_nonzero d.shift _ d.shifted (pow_ne_zero (division laws) laws.one_ne_zero (step_of d) (step_nonzero d) i)
 
-    pub coset_unparted : (d : Coset F E two prime field) (i k : ℕ) → i < k → length (points_of d) % k ≡ 0 → pieces_of d i k ≡ None → ⊥
+    pub coset_unparted : (d : Coset F E two prime field eqs adds subs muls negs) (i k : ℕ) → i < k → length (points_of d) % k ≡ 0 → pieces_of d i k ≡ None → ⊥
     coset_unparted d i k below divides = by_log (log_within d.bits k) refl
       where
         by_log : (r : Option ℕ) → log_within d.bits k ≡ r → piece_by d i k r ≡ None → ⊥
@@ -205,14 +210,14 @@ module _ {F : Type 0} (two : TwoAdicMeaning F) (prime : PrimeMeaning F) (field :
             log_none k 0 (suc d.bits) is l (omega arith) (omega arith) k_is
         by_log (Some l) is f = by_test (ltb i k) refl f
           where
-            by_tests : (z : Dec (d.shift ⊗ pow ops (step_of d) i ≡ 𝟘)) (w : Dec (d.bits - l ≤ most)) → ◌≡◌ {A = Option (Coset F E two prime field)} (made_by (d.shift ⊗ pow ops (step_of d) i) (d.bits - l) z w) None → ⊥
+            by_tests : (z : Dec (d.shift ⊗ pow ops (step_of d) i ≡ 𝟘)) (w : Dec (d.bits - l ≤ most)) → ◌≡◌ {A = Option (Coset F E two prime field eqs adds subs muls negs)} (made_by (d.shift ⊗ pow ops (step_of d) i) (d.bits - l) z w) None → ⊥
             by_tests (yes z) w f = point_nonzero d i z
             by_tests (no s) (no w) f = let fits = d.fits in w (omega arith)
             by_tests (no s) (yes w) f =
-                let present : Option (Coset F E two prime field) → Type 0 = λ r. elim r as (λ _. Type 0) [ None ↦ ⊥ | Some e ↦ Unit {0} ] in
+                let present : Option (Coset F E two prime field eqs adds subs muls negs) → Type 0 = λ r. elim r as (λ _. Type 0) [ None ↦ ⊥ | Some e ↦ Unit {0} ] in
                 subst present f tt
 
             by_test : (u : Bool) → ltb i k ≡ u
-                → elim u as (λ _. Option (Coset F E two prime field)) [ true ↦ made (d.shift ⊗ pow ops (step_of d) i) (d.bits - l) | false ↦ None ] ≡ None → ⊥
+                → elim u as (λ _. Option (Coset F E two prime field eqs adds subs muls negs)) [ true ↦ made (d.shift ⊗ pow ops (step_of d) i) (d.bits - l) | false ↦ None ] ≡ None → ⊥
             by_test true at f = by_tests (dec_zero laws (d.shift ⊗ pow ops (step_of d) i)) (dec_le (d.bits - l) most) f
             by_test false at f = both_ways (ltb i k) at (lt-ltb i k below)

@@ -21,8 +21,8 @@ fn geometric<E: Field>(t: E, k: u32) -> E
     let mut value = E::one();
     let mut power = t;
     for _ in 0..k {
-        value = value.mul(E::one().add(power));
-        power = power.mul(power);
+        value = value * (E::one() + power);
+        power = power * power;
     }
     value
 }
@@ -34,8 +34,8 @@ fn weighted<F: TwoAdic, E: Extension<F>>(inverse: F, back: F, bits: u32, column:
     let mut value = E::zero();
     let mut at = inverse;
     for x in column {
-        value = value.add(E::embed(*x).mul(geometric(w.mul(E::embed(at)), bits)));
-        at = at.mul(back);
+        value = value + E::embed(*x) * geometric(w * E::embed(at), bits);
+        at = at * back;
     }
     value
 }
@@ -44,12 +44,12 @@ fn weighted<F: TwoAdic, E: Extension<F>>(inverse: F, back: F, bits: u32, column:
 // With x point j and P the size, the polynomial that is 1 at x and 0 at the other points is the sum of the powers of w / x below P, over P.
 fn value_at<F: TwoAdic, E: Extension<F>>(d: Coset<F, E>, column: &[F], w: E) -> E
     requires { length column.now ≡ 2 ^ d.bits }
-    ensures { result ≡ interpolated F.Field E.Field E.Extension.own (points_of d) column.now w }
+    ensures { result ≡ interpolated F.Field.own E.Field.own E.Extension.own (points_of d) column.now w }
 {
     let inverse = powers::inverse_or_zero(d.shift);
     let back = powers::inverse_or_zero(step(d));
     let size = F::from_u32(1 << d.bits);
-    weighted(inverse, back, d.bits, column, w).mul(E::embed(powers::inverse_or_zero(size)))
+    weighted(inverse, back, d.bits, column, w) * E::embed(powers::inverse_or_zero(size))
 }
 
 // With n = P m, the column is one of the coset of P points at shift^m, and its value is taken at z^m.

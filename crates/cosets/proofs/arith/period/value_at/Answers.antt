@@ -28,6 +28,6 @@ returns g c =
     c.weighted.ensures
     ∙ ap₂ (λ i b. sum i b (length column)) c.inverse_or_zero-inverse.ensures (c.inverse_or_zero-back.ensures ∙ ap inv c.step.ensures)
     ∙ ap (sum (inv d.shift) (inv (step_of d))) c.requires in
-    c.mul.ensures
+    g.met.E.Field.products _ _ _ c.mul.ensures
     ∙ ap₂ o.mul weighted_is share
     ∙ coset_interpolated g.F.TwoAdic g.F.PrimeField field adic above over g.met.E.Extension.extends d column c.requires w
