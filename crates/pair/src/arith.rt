@@ -106,6 +106,7 @@ impl Field for Pair<BabyBear> {
         }
     }
 
+    #[tactic(auto, using(crate::specs::BabyBearPairs::pairs_nat))]
     fn from_u32(n: u32) -> Self {
         Pair {
             base: BabyBear::from_u32(n),
