@@ -1,7 +1,8 @@
 // What a field is to code: operations whose meaning is a record over the type, and an inverse, with their laws.
 ghost use Rattle.std.specs.Prelude.{◌≡◌, ℕ, Option};
+ghost use Rattle.std.specs.Bool.{Decides};
 ghost use Rattle.algebra.specs.Ring.{RingOps, nat, sub};
-ghost use Rattle.algebra.specs.Field.{FieldLaws, Decides};
+ghost use Rattle.algebra.specs.Field.{FieldLaws};
 ghost use Rattle.field.specs.Numbers.{Numbered, numbered_by};
 
 use std::ops::{Add, Mul, Neg, Sub};

@@ -2,7 +2,7 @@
 #![tactic(auto)]
 
 ghost use Rattle.std.specs.Prelude.{◌≡◌, ◌+◌, ◌-◌, ◌*◌, ◌<◌, ◌≤◌, true, [], length, MatchOption, nat_le, slice_index_or};
-ghost use Rattle.algebra.specs.Field.{Decides};
+ghost use Rattle.std.specs.Bool.{Decides};
 ghost use Rattle.air.specs.Opened.{cells, next_covers};
 ghost use Rattle.walk.specs.Table.{FirstFailing, Found, ReadsRow, WalkIn, ZeroIn, flag as one_if, none, table_of, value_in};
 ghost use Rattle.airs.specs.Station.{station_layout};

@@ -1,10 +1,11 @@
 -- Pairs over a field keep the laws of a field where w is no square. Assumes nothing.
 use Rattle.std.specs.Prelude.{◌≡◌, ℕ, zero as none, suc, Bool, ◌&&◌, Some, None, Option, ◌≢◌}
+use Rattle.std.specs.Bool.{Decides}
 use Rattle.std.proofs.Math.Path.{refl, ap}
 use Rattle.std.proofs.Common.{sym, ◌∙◌}
 use Rattle.std.proofs.lemmas.Bool.Decides.{Decides-and}
 use Rattle.algebra.specs.Ring.{RingOps, RingLaws, nat}
-use Rattle.algebra.specs.Field.{Decides, FieldLaws}
+use Rattle.algebra.specs.Field.{FieldLaws}
 use Rattle.algebra.proofs.RingBasics.{zero-add, mul-zero, zero-mul}
 use Rattle.algebra.proofs.PairLaws as products
 use Rattle.algebra.proofs.Norms.{norm_zero, conjugate_base, conjugate_root}
@@ -20,13 +21,8 @@ pub pair_equality :
     {F : Type 0} {same : F → F → Bool} → ((a b : F) → Decides (same a b) (a ≡ b))
     → (x y : Pair F) → Decides (same x.base y.base && same x.root y.root) (x ≡ y)
 pair_equality decides x y =
-    let bases = decides x.base y.base in
-    let roots = decides x.root y.root in
-    let both = Decides-and _ _ (bases.sound, bases.complete) (roots.sound, roots.complete) in
-    record {
-      sound = λ e. let parts = both.0 e in same_parts parts.0 parts.1;
-      complete = λ e. both.1 (ap (λ z. z.base) e, ap (λ z. z.root) e);
-    }
+    let both = Decides-and _ _ (decides x.base y.base) (decides x.root y.root) in
+    (λ e. let parts = both.0 e in same_parts parts.0 parts.1, λ e. both.1 (ap (λ z. z.base) e, ap (λ z. z.root) e))
 
 -- a pair and its parts
 abbrev of : {F : Type 0} → Pair F → F × F

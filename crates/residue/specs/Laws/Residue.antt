@@ -1,5 +1,6 @@
 -- Residues keep the laws of a field. Assumes nothing.
 use Rattle.std.specs.Prelude.{◌≡◌, ℕ, zero, suc, ◌+◌, ◌-◌, ◌*◌, ◌/◌, ◌%◌, ◌<◌, ◌≤◌, ◌==◌, Bool, true, false, Some, None, nat_lt}
+use Rattle.std.specs.Bool.{Decides}
 use Rattle.std.proofs.Math.Path.{refl, ap}
 use Rattle.std.proofs.Common.{sym, ◌∙◌, ⊎_elim, add-zero, add_comm, add_assoc, zero-mul, mul-one, mul_comm, mul_left_comm, mul_assoc, mul-add, mod-eq_of_lt, le_refl, eq-eqb, eqb-true, eq-zero-or-pos, one-add, arith}
 use mathlib.Core.HLevel.{is_prop→PathP}
@@ -9,7 +10,7 @@ use Rattle.std.proofs.lemmas.Nat.{mul-mod_first, mul-mod_second}
 use borrow.Author.Tests.{ltb-true, ltb-false}
 use Rattle.residue.specs.declared.Residue.{Residue}
 use Rattle.algebra.specs.Ring.{RingLaws, nat}
-use Rattle.algebra.specs.Field.{Decides, FieldLaws}
+use Rattle.algebra.specs.Field.{FieldLaws}
 use Rattle.field.specs.Numbers.{Numbered}
 use Rattle.residue.specs.Prime.{Prime}
 use Rattle.residue.specs.Residue.{reduced, found_from, inverse_number, inverse_of, residue_ops, residue_inverse}
@@ -20,10 +21,7 @@ same_value {p} x y e =
     λ i. record { value = e i; below = is_prop→PathP (λ j. e j < p) (λ j. le_prop) x.below y.below i }
 
 pub residue_equality : {p : ℕ} (x y : Residue p) → Decides (x.value == y.value) (x ≡ y)
-residue_equality x y = record {
-  sound = λ e. same_value x y (eqb-true _ _ e);
-  complete = λ e. eq-eqb _ _ (ap (λ z. z.value) e);
-}
+residue_equality x y = (λ e. same_value x y (eqb-true _ _ e), λ e. eq-eqb _ _ (ap (λ z. z.value) e))
 
 module _ (p : ℕ) (more : 1 < p) (prime : Prime p) where
   positive : 0 < p
