@@ -66,7 +66,7 @@ fn ood_request<R: Role, S: Sponge, F: PrimeField, E: Challenge<F>>(
     }
 }
 
-fn begin_request<R: Role, E: Copy>(run: Run<R, E>) -> Run<R, E>
+fn begin_request<R, E: Copy>(run: Run<R, E>) -> Run<R, E>
     ensures { result ≡ run_opens run }
 {
     match run {
@@ -75,7 +75,7 @@ fn begin_request<R: Role, E: Copy>(run: Run<R, E>) -> Run<R, E>
     }
 }
 
-fn end_request<R: Role, E: Copy>(run: Run<R, E>) -> Run<R, E>
+fn end_request<R, E: Copy>(run: Run<R, E>) -> Run<R, E>
     ensures { result ≡ run_closes run }
 {
     match run {
@@ -84,7 +84,7 @@ fn end_request<R: Role, E: Copy>(run: Run<R, E>) -> Run<R, E>
     }
 }
 
-fn finish_request<R: Role, E: Copy>(run: Run<R, E>) -> Run<R, E>
+fn finish_request<R, E: Copy>(run: Run<R, E>) -> Run<R, E>
     ensures { result ≡ run_finishes run }
 {
     match run {
@@ -113,7 +113,7 @@ fn one_request<R: Role, S: Sponge, F: PrimeField, E: Challenge<F>>(
 }
 
 // Takes the end apart; an open bracket is closed first.
-fn shown<R: Role, E: Copy>(run: Run<R, E>) -> Standing<E>
+fn shown<R, E: Copy>(run: Run<R, E>) -> Standing<E>
     ensures { result ≡ shows run }
 {
     match run {

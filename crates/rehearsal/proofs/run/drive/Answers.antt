@@ -8,9 +8,6 @@ use Rattle.rehearsal.specs.Driven.{meant, seen, shows}
 use Rattle.rehearsal.proofs.Driving.{went_on, seen_shown}
 use Rattle.rehearsal.proofs.run.drive.Goals as goal
 
-pub loop-request-init : goal.loop-request-init
-loop-request-init g c = (omega arith, λ sh e p q. (p, q))
-
 pub loop-request-preserved : goal.loop-request-preserved
 loop-request-preserved g c =
     (omega arith, went_on g.S.Sponge.steps g.E.Challenge.draws g.R.Role.role (meant g.F.PrimeField.numbered) c.args.requests.now c.loop-request.request-index c.request-item.result (Start c.new.result) c.new.new.sponge c.loop-request.run c.loop-request.sponge c.one_request-run.result c.one_request-run.new.sponge c.loop-request-test.true c.request-item.is c.loop-request.invariant.1 c.one_request-run.ensures)
