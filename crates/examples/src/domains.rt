@@ -31,38 +31,23 @@ mod tests {
     type BigLine = Progression<BabyBear, Pair<BabyBear>>;
 
     fn number<F: PrimeField>(x: Option<F>) -> Option<u32> {
-        match x {
-            Some(x) => Some(x.number()),
-            None => None,
-        }
+        x.map(|x| x.number())
     }
 
     // The size, the first point and the last.
     fn shape<D: Domain>(d: Option<D>) -> Option<(usize, u32, u32)> {
-        match d {
-            Some(d) => {
-                let n = d.size();
-                if n == 0 {
-                    return None;
-                }
-                Some((n, d.first_point().number(), d.point(n - 1).number()))
-            }
-            None => None,
-        }
+        let d = d?;
+        let n = d.size();
+        let last = n.checked_sub(1)?;
+        Some((n, d.first_point().number(), d.point(last).number()))
     }
 
     fn beside<D: Domain>(d: Option<D>, size: usize) -> Option<(usize, u32, u32)> {
-        match d {
-            Some(d) => shape(d.disjoint(size)),
-            None => None,
-        }
+        shape(d?.disjoint(size))
     }
 
     fn part<D: Domain>(d: Option<D>, i: usize, k: usize) -> Option<(usize, u32, u32)> {
-        match d {
-            Some(d) => shape(d.piece(i, k)),
-            None => None,
-        }
+        shape(d?.piece(i, k))
     }
 
     fn turn(size: usize) -> Option<Turn> {
@@ -154,20 +139,15 @@ mod tests {
         assert_eq!(rt; shape(big_turn(268435456)), None);
         assert_eq!(rt; shape(big_line(1024)), Some((1024, 0, 1023)));
         assert_eq!(rt; shape(big_line(2048)), None);
-        match big_turn(134217728) {
-            Some(d) => {
-                assert_eq!(rt; d.size(), 134217728);
-                Ok(())
-            },
-            None => Err(Fail::new("a coset was expected")),
-        }
+        let Some(large) = big_turn(134217728) else {
+            return Err(Fail::new("a coset was expected"));
+        };
+        assert_eq!(rt; large.size(), 134217728);
+        Ok(())
     }
 
     fn parts(x: Option<Pair<BabyBear>>) -> Option<(u32, u32)> {
-        match x {
-            Some(x) => Some((x.base.number(), x.root.number())),
-            None => None,
-        }
+        x.map(|x| (x.base.number(), x.root.number()))
     }
 
     // √11
@@ -179,34 +159,19 @@ mod tests {
     }
 
     fn vanishing<D: Domain>(d: Option<D>, z: D::Ext) -> Option<D::Ext> {
-        match d {
-            Some(d) => Some(d.vanishing_at(z)),
-            None => None,
-        }
+        d.map(|d| d.vanishing_at(z))
     }
 
     fn first<D: Domain>(d: Option<D>, z: D::Ext) -> Option<D::Ext> {
-        match d {
-            Some(d) => match d.selectors_at(z) {
-                Some(s) => Some(s.first),
-                None => None,
-            },
-            None => None,
-        }
+        d?.selectors_at(z).map(|s| s.first)
     }
 
     fn next<D: Domain>(d: Option<D>, z: D::Ext) -> Option<D::Ext> {
-        match d {
-            Some(d) => d.next_point(z),
-            None => None,
-        }
+        d?.next_point(z)
     }
 
     fn column<D: Periodic>(d: Option<D>, values: &[D::Base], z: D::Ext) -> Option<D::Ext> {
-        match d {
-            Some(d) => d.periodic_value(values, z),
-            None => None,
-        }
+        d?.periodic_value(values, z)
     }
 
     #[test]
@@ -263,12 +228,13 @@ mod tests {
         match turn(4) {
             Some(d) => {
                 let mut places = [d; 3];
-                let made = split::split(d, k, &mut places);
+                let made = split::split(d, k, &mut places).is_ok();
+                let [a, b, c] = places;
                 (
                     made,
-                    places[0].first_point().number(),
-                    places[1].first_point().number(),
-                    places[2].first_point().number(),
+                    a.first_point().number(),
+                    b.first_point().number(),
+                    c.first_point().number(),
                 )
             }
             None => (false, 0, 0, 0),

@@ -1,5 +1,5 @@
 -- Cosets keep the laws of a domain. Assumes nothing.
-use Rattle.std.proofs.Common.{◌≡◌, ℕ, suc, ◌+◌, ◌-◌, ◌*◌, ◌/◌, ◌%◌, ◌^◌, ◌<◌, ◌≤◌, Bool, true, false, ltb, leb, ◌≢◌, List, [], ◌∷◌, length, get_or, Some, None, Option, sym, refl, ap, ◌∙◌, subst, ap₂, le_refl, mul_comm, mul-le-mul, zero-add, mul-suc, arith, pow-add as power_add, ltb-true, lt-ltb, leb-true}
+use Rattle.std.proofs.Common.{◌≡◌, ℕ, suc, ◌+◌, ◌-◌, ◌*◌, ◌/◌, ◌%◌, ◌^◌, ◌<◌, ◌≤◌, Bool, true, false, ltb, leb, ◌≢◌, List, [], ◌∷◌, length, get_or, Some, None, Option, sym, refl, ap, ◌∙◌, subst, ap₂, le_refl, mul_comm, mul-le-mul, zero-add, mul-suc, arith, pow-add as power_add, ltb-true, lt-ltb, leb-true, le-leb}
 use Rattle.std.proofs.Props.{props}
 use native.Mathlib.Decide.{dec_le}
 use native.Mathlib.Nat.{div-add-mod}
@@ -118,6 +118,12 @@ module _ {F : Type 0} (two : TwoAdicMeaning F) (prime : PrimeMeaning F) (field :
     pub made_from : (d : Coset F E two prime field eqs adds subs muls negs) (x : F) (b : ℕ) → d.shift ≡ x → d.bits ≡ b → Some d ≡ made x b
     made_from d x b p q = sym (made_own d) ∙ ap₂ made p q
 
+    made_present : (x : F) (b : ℕ) → x ≢ 𝟘 → b ≤ most → ◌≡◌ {A = Option (Coset F E two prime field eqs adds subs muls negs)} (made x b) None → ⊥
+    made_present x b h w f =
+        let e : Coset F E two prime field eqs adds subs muls negs = record { shift = x; bits = b; above = record {}; shifted = h; fits = w } in
+        let present : Option (Coset F E two prime field eqs adds subs muls negs) → Type 0 = λ r. elim r as (λ _. Type 0) [ None ↦ ⊥ | Some d ↦ Unit {0} ] in
+        subst present (sym (made_own e) ∙ f) tt
+
     pub record Made (e : Coset F E two prime field eqs adds subs muls negs) (x : F) (b : ℕ) : Type 0 where
       pub shift : e.shift ≡ x
       pub bits : e.bits ≡ b
@@ -210,14 +216,15 @@ module _ {F : Type 0} (two : TwoAdicMeaning F) (prime : PrimeMeaning F) (field :
             log_none k 0 (suc d.bits) is l (omega arith) (omega arith) k_is
         by_log (Some l) is f = by_test (ltb i k) refl f
           where
-            by_tests : (z : Dec (d.shift ⊗ pow ops (step_of d) i ≡ 𝟘)) (w : Dec (d.bits - l ≤ most)) → ◌≡◌ {A = Option (Coset F E two prime field eqs adds subs muls negs)} (made_by (d.shift ⊗ pow ops (step_of d) i) (d.bits - l) z w) None → ⊥
-            by_tests (yes z) w f = point_nonzero d i z
-            by_tests (no s) (no w) f = let fits = d.fits in w (omega arith)
-            by_tests (no s) (yes w) f =
-                let present : Option (Coset F E two prime field eqs adds subs muls negs) → Type 0 = λ r. elim r as (λ _. Type 0) [ None ↦ ⊥ | Some e ↦ Unit {0} ] in
-                subst present f tt
-
             by_test : (u : Bool) → ltb i k ≡ u
                 → elim u as (λ _. Option (Coset F E two prime field eqs adds subs muls negs)) [ true ↦ made (d.shift ⊗ pow ops (step_of d) i) (d.bits - l) | false ↦ None ] ≡ None → ⊥
-            by_test true at f = by_tests (dec_zero laws (d.shift ⊗ pow ops (step_of d) i)) (dec_le (d.bits - l) most) f
+            by_test true at f = let fits = d.fits in made_present (d.shift ⊗ pow ops (step_of d) i) (d.bits - l) (point_nonzero d i) (omega arith) f
             by_test false at f = both_ways (ltb i k) at (lt-ltb i k below)
+
+    -- a coset beside d is absent only where one of the sizes is too large, or the asked one is no power of two
+    pub coset_beside : (d : Coset F E two prime field eqs adds subs muls negs) (n b : ℕ) → log_within apart n ≡ Some b → d.bits ≤ apart → beside_of d n ≢ None
+    coset_beside d n b is small f =
+        let found = log_some n 0 (suc apart) b is in
+        let by_test : Bool → Option (Coset F E two prime field eqs adds subs muls negs) = λ u. elim u [ true ↦ made (generated ⊗ d.shift) b | false ↦ None ] in
+        made_present (generated ⊗ d.shift) b (product_nonzero generated d.shift adic.nonzero d.shifted) (omega (arith, found.below, adic.within))
+        (sym (ap (beside_by d) is ∙ ap by_test (le-leb d.bits apart small)) ∙ f)
