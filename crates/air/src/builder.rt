@@ -60,7 +60,7 @@ impl<E: Field> Algebra for E {
     ghost any_product = { E.Field.any_product };
 }
 
-// What each leaf of an expression is read as.
+// What each leaf of an expression is read as. The named readers read by the leaf, and no implementation has others.
 pub trait Rows {
     type Expr: Algebra;
 
@@ -69,61 +69,61 @@ pub trait Rows {
     fn read(&self, leaf: Leaf) -> Self::Expr
         ensures { result ≡ reads self.now leaf };
 
-    fn main(&self, column: usize) -> Self::Expr
+    final fn main(&self, column: usize) -> Self::Expr
         ensures { result ≡ reads self.now (Leaf.Main column) }
     {
         self.read(Leaf::Main(column))
     }
 
-    fn main_next(&self, column: usize) -> Self::Expr
+    final fn main_next(&self, column: usize) -> Self::Expr
         ensures { result ≡ reads self.now (Leaf.MainNext column) }
     {
         self.read(Leaf::MainNext(column))
     }
 
-    fn preprocessed(&self, column: usize) -> Self::Expr
+    final fn preprocessed(&self, column: usize) -> Self::Expr
         ensures { result ≡ reads self.now (Leaf.Preprocessed column) }
     {
         self.read(Leaf::Preprocessed(column))
     }
 
-    fn preprocessed_next(&self, column: usize) -> Self::Expr
+    final fn preprocessed_next(&self, column: usize) -> Self::Expr
         ensures { result ≡ reads self.now (Leaf.PreprocessedNext column) }
     {
         self.read(Leaf::PreprocessedNext(column))
     }
 
-    fn public_value(&self, index: usize) -> Self::Expr
+    final fn public_value(&self, index: usize) -> Self::Expr
         ensures { result ≡ reads self.now (Leaf.Public index) }
     {
         self.read(Leaf::Public(index))
     }
 
-    fn periodic_value(&self, column: usize) -> Self::Expr
+    final fn periodic_value(&self, column: usize) -> Self::Expr
         ensures { result ≡ reads self.now (Leaf.Periodic column) }
     {
         self.read(Leaf::Periodic(column))
     }
 
-    fn is_first_row(&self) -> Self::Expr
+    final fn is_first_row(&self) -> Self::Expr
         ensures { result ≡ reads self.now Leaf.IsFirst }
     {
         self.read(Leaf::IsFirst)
     }
 
-    fn is_last_row(&self) -> Self::Expr
+    final fn is_last_row(&self) -> Self::Expr
         ensures { result ≡ reads self.now Leaf.IsLast }
     {
         self.read(Leaf::IsLast)
     }
 
-    fn is_transition(&self) -> Self::Expr
+    final fn is_transition(&self) -> Self::Expr
         ensures { result ≡ reads self.now Leaf.IsTransition }
     {
         self.read(Leaf::IsTransition)
     }
 
-    fn number(&self, n: u32) -> Self::Expr
+    final fn number(&self, n: u32) -> Self::Expr
         ensures { result ≡ reads self.now (Leaf.Number n) }
     {
         self.read(Leaf::Number(n))

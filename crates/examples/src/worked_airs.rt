@@ -1,5 +1,5 @@
 // AIRs: folds, degrees and chunk counts, rows that are too short, and tables of stations modulo 17.
-ghost use Rattle.std.specs.Prelude.{◌≡◌, [], ◌∷◌, refl};
+ghost use Rattle.std.specs.Prelude.{◌≡◌, ◌≤◌, [], ◌∷◌, refl};
 ghost use Rattle.examples.specs.Airs.{declaring, three, three_layout};
 
 use air::builder::{Air, AirBuilder, Layout, Rows};
@@ -102,16 +102,11 @@ fn three_by_three<'a>(none: &'a [Seventeen]) -> Option<u32>
 }
 
 // On a coset the transition selector has degree 0, and on a progression 1.
-fn station_degree_on_a_coset() -> u32
+fn station_degree(transition: u32) -> u32
+    requires { transition ≤ 1 }
     ensures { result ≡ 2 }
 {
-    constraint_degree::<Seventeen, StationAir>(&StationAir, 0)
-}
-
-fn station_degree_on_a_progression() -> u32
-    ensures { result ≡ 2 }
-{
-    constraint_degree::<Seventeen, StationAir>(&StationAir, 1)
+    constraint_degree::<Seventeen, StationAir>(&StationAir, transition)
 }
 
 // 2^32 chunks for the greatest degree, under zero knowledge.
@@ -236,8 +231,8 @@ mod tests {
 
     #[test]
     fn degrees(rt: HostRuntime) {
-        assert_eq!(rt; station_degree_on_a_coset(), 2);
-        assert_eq!(rt; station_degree_on_a_progression(), 2);
+        assert_eq!(rt; station_degree(0), 2);
+        assert_eq!(rt; station_degree(1), 2);
         assert_eq!(rt;
             constraint_degree::<Seventeen, StationAir>(&StationAir, 4294967294),
             4294967295
