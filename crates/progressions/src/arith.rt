@@ -37,12 +37,12 @@ fn count<F: PrimeField, E: Copy>(d: Progression<F, E>) -> u32
 fn term<F: PrimeField, E: Copy>(d: Progression<F, E>, i: u32) -> F
     ensures { result ≡ term_at F.Field.ops d.start d.step i }
 {
-    d.start.add(F::from_u32(i).mul(d.step))
+    d.start + F::from_u32(i) * d.step
 }
 
 // A step that is not zero. Modulo 2 the step of every second point is zero, and the one point that is left needs none.
 fn stepped<F: Field>(step: F) -> F
-    ensures { result ≡ or_one F.Field step }
+    ensures { result ≡ or_one F.Field.own step }
 {
     if step.equals(F::zero()) {
         F::one()
@@ -105,13 +105,13 @@ pub fn natural<F: PrimeField, E: Extension<F>>(bits: u32) -> Option<Progression<
 }
 
 // The product of z - p over the terms p from number `from` on and before number `to`.
-#[tactic(auto, using(crate::specs::Laws::Terms::terms_next, crate::specs::Laws::Terms::terms_none))]
+#[tactic(auto, using(crate::specs::Laws::Terms::terms_none))]
 fn vanishing<F: PrimeField, E: Extension<F>>(d: Progression<F, E>, from: u32, to: u32, z: E) -> E
     ensures { result ≡ vanishing E.Field.ops (map E.Extension.embedded (terms F.Field.ops d.start d.step from (to - from))) z }
 {
     let mut value = E::one();
     for i in from..to {
-        value = value.mul(z.sub(E::embed(term(d, i))));
+        value = value * (z - E::embed(term(d, i)));
     }
     value
 }
@@ -128,7 +128,7 @@ fn basis<F: PrimeField, E: Extension<F>>(
     ensures { result ≡ basis E.Field.ops (total E.Field.ops E.Field.inverted) (E.Extension.embedded (term_at F.Field.ops d.start d.step a)) (map E.Extension.embedded (terms F.Field.ops d.start d.step from (to - from))) z }
 {
     let at = E::embed(term(d, a));
-    vanishing(d, from, to, z).mul(powers::inverse_or_zero(vanishing(d, from, to, at)))
+    vanishing(d, from, to, z) * powers::inverse_or_zero(vanishing(d, from, to, at))
 }
 
 impl<F: PrimeField, E: Extension<F>> Domain for Progression<F, E> {
@@ -140,13 +140,13 @@ impl<F: PrimeField, E: Extension<F>> Domain for Progression<F, E> {
 
     ghost scale = { λ _. F.Field.ops.one };
 
-    ghost first = { first_of E.Field E.Extension.own };
+    ghost first = { first_of E.Field.own E.Extension.own };
 
-    ghost last = { last_of E.Field E.Extension.own };
+    ghost last = { last_of E.Field.own E.Extension.own };
 
-    ghost transition = { transition_of E.Field E.Extension.own };
+    ghost transition = { transition_of E.Field.own E.Extension.own };
 
-    ghost following = { following_of E.Field E.Extension.own };
+    ghost following = { following_of E.Field.own E.Extension.own };
 
     ghost beside = { beside_of };
 
@@ -154,17 +154,17 @@ impl<F: PrimeField, E: Extension<F>> Domain for Progression<F, E> {
 
     ghost degree = { 1 };
 
-    ghost distinct = { progression_distinct F.PrimeField.own F.Field F.PrimeField.numbers };
+    ghost distinct = { progression_distinct F.PrimeField.own F.Field.own F.PrimeField.numbers };
 
-    ghost doubled = { progression_doubled F.PrimeField.own F.Field F.PrimeField.numbers };
+    ghost doubled = { progression_doubled F.PrimeField.own F.Field.own F.PrimeField.numbers };
 
     ghost scaled = { Prim.search rules };
 
-    ghost separate = { progression_separate F.PrimeField.own F.Field F.PrimeField.numbers };
+    ghost separate = { progression_separate F.PrimeField.own F.Field.own F.PrimeField.numbers };
 
-    ghost parted = { progression_parted F.PrimeField.own F.Field F.PrimeField.numbers };
+    ghost parted = { progression_parted F.PrimeField.own F.Field.own F.PrimeField.numbers };
 
-    ghost unparted = { progression_unparted F.PrimeField.own F.Field F.PrimeField.numbers };
+    ghost unparted = { progression_unparted F.PrimeField.own F.Field.own F.PrimeField.numbers };
 
     fn size(self) -> usize {
         count(self) as usize
@@ -192,7 +192,7 @@ impl<F: PrimeField, E: Extension<F>> Domain for Progression<F, E> {
         Some(Selectors {
             first: basis(self, 0, 1, count, z),
             last,
-            transition: E::one().sub(last),
+            transition: E::one() - last,
             inverse,
         })
     }
@@ -201,7 +201,7 @@ impl<F: PrimeField, E: Extension<F>> Domain for Progression<F, E> {
         if self.bits == 0 {
             return None;
         }
-        Some(z.add(E::embed(self.step)))
+        Some(z + E::embed(self.step))
     }
 
     fn disjoint(self, size: usize) -> Option<Self> {
@@ -218,7 +218,7 @@ impl<F: PrimeField, E: Extension<F>> Domain for Progression<F, E> {
         if i >= k {
             return None;
         }
-        let step = stepped(F::from_u32(k as u32).mul(self.step));
+        let step = stepped(F::from_u32(k as u32) * self.step);
         Some(at(term(self, i as u32), step, self.bits - less))
     }
 

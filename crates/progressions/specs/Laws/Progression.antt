@@ -5,6 +5,11 @@ use native.Mathlib.Nat.{div-add-mod}
 use native.Mathlib.Decide.{dec_le, dec_lt}
 use lib.Pow.{pow-lt}
 use borrow.Author.Tests.{both_ways}
+use Rattle.std.specs.declared.cmp.PartialEq.{Ghosts as PartialEqMeaning}
+use Rattle.std.specs.declared.ops.Add.{Ghosts as AddMeaning}
+use Rattle.std.specs.declared.ops.Mul.{Ghosts as MulMeaning}
+use Rattle.std.specs.declared.ops.Neg.{Ghosts as NegMeaning}
+use Rattle.std.specs.declared.ops.Sub.{Ghosts as SubMeaning}
 use Rattle.algebra.specs.Ring.{nat}
 use Rattle.algebra.specs.Polynomial.{Distinct}
 use Rattle.algebra.specs.Domain.{Apart}
@@ -66,31 +71,31 @@ module _ {F : Type 0} (prime : PrimeMeaning F) (field : FieldMeaning F) (named :
         points = λ j small. at j (omega (arith, small, part_length));
       }
 
-  module _ {E : Type 0} where
-    pub size_fits : (d : Progression F E prime field) → 2 ^ d.bits ≤ modulus
+  module _ {E : Type 0} {eqs : PartialEqMeaning F} {adds : AddMeaning F F F} {subs : SubMeaning F F F} {muls : MulMeaning F F F} {negs : NegMeaning F F} where
+    pub size_fits : (d : Progression F E prime field eqs adds subs muls negs) → 2 ^ d.bits ≤ modulus
     size_fits d =
         let some : 0 < modulus = omega (arith, named.below 𝟘) in
         omega (arith, fitting_fits modulus 10 some, pow_mono d.fits)
 
-    pub few_bits : (d : Progression F E prime field) → d.bits ≤ 10
+    pub few_bits : (d : Progression F E prime field eqs adds subs muls negs) → d.bits ≤ 10
     few_bits d = omega (arith, d.fits, fitting_within modulus 10)
 
-    pub few_points : (d : Progression F E prime field) → 2 ^ d.bits ≤ 1024
+    pub few_points : (d : Progression F E prime field eqs adds subs muls negs) → 2 ^ d.bits ≤ 1024
     few_points d = pow_mono (few_bits d)
 
-    pub progression_distinct : (d : Progression F E prime field) → Distinct (points_of d)
+    pub progression_distinct : (d : Progression F E prime field eqs adds subs muls negs) → Distinct (points_of d)
     progression_distinct d =
         terms_distinct laws modulus numbered named d.start d.step d.stepped 0 (2 ^ d.bits) (omega (arith, size_fits d))
 
     -- a progression is fixed by its start, its step and its size
     pub same_progression : {a x : F} {b : ℕ} (s t : x ≢ 𝟘) (v w : b ≤ fitting modulus 10)
-        → ◌≡◌ {A = Progression F E prime field} (record { start = a; step = x; bits = b; above = record {}; stepped = s; fits = v }) (record { start = a; step = x; bits = b; above = record {}; stepped = t; fits = w })
+        → ◌≡◌ {A = Progression F E prime field eqs adds subs muls negs} (record { start = a; step = x; bits = b; above = record {}; stepped = s; fits = v }) (record { start = a; step = x; bits = b; above = record {}; stepped = t; fits = w })
     same_progression {a} {x} {b} s t v w =
         let stepped : IsProp (x ≢ 𝟘) = hlevel props in
         let fits : IsProp (b ≤ fitting modulus 10) = hlevel props in
         λ i. record { start = a; step = x; bits = b; above = record {}; stepped = stepped s t i; fits = fits v w i }
 
-    pub made_own : (d : Progression F E prime field) → made d.start d.step d.bits ≡ Some d
+    pub made_own : (d : Progression F E prime field eqs adds subs muls negs) → made d.start d.step d.bits ≡ Some d
     made_own d = by_tests (dec_zero laws d.step) (dec_le d.bits (fitting modulus 10))
       where
         by_tests : (z : Dec (d.step ≡ 𝟘)) (w : Dec (d.bits ≤ fitting modulus 10)) → made_by d.start d.step d.bits z w ≡ Some d
@@ -98,50 +103,50 @@ module _ {F : Type 0} (prime : PrimeMeaning F) (field : FieldMeaning F) (named :
         by_tests (no s) (no w) = absurd (w d.fits)
         by_tests (no s) (yes w) = ap Some (same_progression s d.stepped w d.fits)
 
-    made_present : (a x : F) (b : ℕ) → x ≢ 𝟘 → b ≤ fitting modulus 10 → ◌≡◌ {A = Option (Progression F E prime field)} (made a x b) None → ⊥
+    made_present : (a x : F) (b : ℕ) → x ≢ 𝟘 → b ≤ fitting modulus 10 → ◌≡◌ {A = Option (Progression F E prime field eqs adds subs muls negs)} (made a x b) None → ⊥
     made_present a x b h w f =
-        let e : Progression F E prime field = record { start = a; step = x; bits = b; above = record {}; stepped = h; fits = w } in
-        let present : Option (Progression F E prime field) → Type 0 = λ r. elim r as (λ _. Type 0) [ None ↦ ⊥ | Some d ↦ Unit {0} ] in
+        let e : Progression F E prime field eqs adds subs muls negs = record { start = a; step = x; bits = b; above = record {}; stepped = h; fits = w } in
+        let present : Option (Progression F E prime field eqs adds subs muls negs) → Type 0 = λ r. elim r as (λ _. Type 0) [ None ↦ ⊥ | Some d ↦ Unit {0} ] in
         subst present (sym (made_own e) ∙ f) tt
 
-    pub record Made (e : Progression F E prime field) (a x : F) (b : ℕ) : Type 0 where
+    pub record Made (e : Progression F E prime field eqs adds subs muls negs) (a x : F) (b : ℕ) : Type 0 where
       pub start : e.start ≡ a
       pub step : e.step ≡ x
       pub bits : e.bits ≡ b
 
-    made_is : (a x : F) (b : ℕ) (e : Progression F E prime field) → made a x b ≡ Some e → Made e a x b
+    made_is : (a x : F) (b : ℕ) (e : Progression F E prime field eqs adds subs muls negs) → made a x b ≡ Some e → Made e a x b
     made_is a x b e = by_tests (dec_zero laws x) (dec_le b (fitting modulus 10))
       where
         by_tests : (z : Dec (x ≡ 𝟘)) (w : Dec (b ≤ fitting modulus 10)) → made_by a x b z w ≡ Some e → Made e a x b
         by_tests (yes z) w f = let z : ◌≡◌ {A = ℕ} 0 1 = cc in absurd (omega arith)
         by_tests (no s) (no w) f = let z : ◌≡◌ {A = ℕ} 0 1 = cc in absurd (omega arith)
         by_tests (no s) (yes w) f =
-            let start_in : Option (Progression F E prime field) → F = λ r. elim r [ None ↦ a | Some d ↦ d.start ] in
-            let step_in : Option (Progression F E prime field) → F = λ r. elim r [ None ↦ x | Some d ↦ d.step ] in
-            let bits_in : Option (Progression F E prime field) → ℕ = λ r. elim r [ None ↦ b | Some d ↦ d.bits ] in
+            let start_in : Option (Progression F E prime field eqs adds subs muls negs) → F = λ r. elim r [ None ↦ a | Some d ↦ d.start ] in
+            let step_in : Option (Progression F E prime field eqs adds subs muls negs) → F = λ r. elim r [ None ↦ x | Some d ↦ d.step ] in
+            let bits_in : Option (Progression F E prime field eqs adds subs muls negs) → ℕ = λ r. elim r [ None ↦ b | Some d ↦ d.bits ] in
             record { start = sym (ap start_in f); step = sym (ap step_in f); bits = sym (ap bits_in f) }
 
     -- the points of what is made
-    made_points : (a x : F) (b : ℕ) (e : Progression F E prime field) → made a x b ≡ Some e → points_of e ≡ terms ops a x 0 (2 ^ b)
+    made_points : (a x : F) (b : ℕ) (e : Progression F E prime field eqs adds subs muls negs) → made a x b ≡ Some e → points_of e ≡ terms ops a x 0 (2 ^ b)
     made_points a x b e f =
         let found = made_is a x b e f in
         ap₂ (λ c y. terms ops c y 0 (2 ^ e.bits)) found.start found.step ∙ ap (λ m. terms ops a x 0 (2 ^ m)) found.bits
 
     -- what the constructor answers
-    pub placed_points : (a s : F) (size : ℕ) (d : Progression F E prime field) → placed a s size ≡ Some d → points_of d ≡ terms ops a s 0 size
+    pub placed_points : (a s : F) (size : ℕ) (d : Progression F E prime field eqs adds subs muls negs) → placed a s size ≡ Some d → points_of d ≡ terms ops a s 0 size
     placed_points a s size d = by_log (log_within (fitting modulus 10) size) refl
       where
         by_log : (l : Option ℕ) → log_within (fitting modulus 10) size ≡ l → placed_by a s l ≡ Some d → points_of d ≡ terms ops a s 0 size
         by_log None at f = let z : ◌≡◌ {A = ℕ} 0 1 = cc in absurd (omega arith)
         by_log (Some b) at f = made_points a s b d f ∙ ap (terms ops a s 0) (sym (log_some size 0 (suc (fitting modulus 10)) b at).is)
 
-    pub progression_length : (d : Progression F E prime field) → length (points_of d) ≡ 2 ^ d.bits
+    pub progression_length : (d : Progression F E prime field eqs adds subs muls negs) → length (points_of d) ≡ 2 ^ d.bits
     progression_length d = length_terms ops d.start d.step 0 (2 ^ d.bits)
 
-    pub progression_doubled : (d : Progression F E prime field) → PowerOfTwo (length (points_of d))
+    pub progression_doubled : (d : Progression F E prime field eqs adds subs muls negs) → PowerOfTwo (length (points_of d))
     progression_doubled d = record { log = d.bits; is = progression_length d }
 
-    pub progression_separate : (d e : Progression F E prime field) (n : ℕ) → beside_of d n ≡ Some e → (length (points_of e) ≡ n) × Apart (points_of d) (points_of e)
+    pub progression_separate : (d e : Progression F E prime field eqs adds subs muls negs) (n : ℕ) → beside_of d n ≡ Some e → (length (points_of e) ≡ n) × Apart (points_of d) (points_of e)
     progression_separate d e n = by_log (log_within 10 n) refl
       where
         by_log : (r : Option ℕ) → log_within 10 n ≡ r → beside_by d n r ≡ Some e → (length (points_of e) ≡ n) × Apart (points_of d) (points_of e)
@@ -149,7 +154,7 @@ module _ {F : Type 0} (prime : PrimeMeaning F) (field : FieldMeaning F) (named :
         by_log (Some b) is f = by_test (leb (2 ^ d.bits + n) modulus) refl f
           where
             by_test : (u : Bool) → leb (2 ^ d.bits + n) modulus ≡ u
-                → elim u as (λ _. Option (Progression F E prime field)) [ true ↦ made (term ops d.start d.step (2 ^ d.bits)) d.step b | false ↦ None ] ≡ Some e
+                → elim u as (λ _. Option (Progression F E prime field eqs adds subs muls negs)) [ true ↦ made (term ops d.start d.step (2 ^ d.bits)) d.step b | false ↦ None ] ≡ Some e
                 → (length (points_of e) ≡ n) × Apart (points_of d) (points_of e)
             by_test false at f = let z : ◌≡◌ {A = ℕ} 0 1 = cc in absurd (omega arith)
             by_test true at f =
@@ -169,17 +174,17 @@ module _ {F : Type 0} (prime : PrimeMeaning F) (field : FieldMeaning F) (named :
                 )
 
     -- the size of a progression beside d
-    pub beside_fits : (d : Progression F E prime field) (n b : ℕ) → log_within 10 n ≡ Some b → 2 ^ d.bits + n ≤ modulus → b ≤ fitting modulus 10
+    pub beside_fits : (d : Progression F E prime field eqs adds subs muls negs) (n b : ℕ) → log_within 10 n ≡ Some b → 2 ^ d.bits + n ≤ modulus → b ≤ fitting modulus 10
     beside_fits d n b is room = let found = log_some n 0 11 b is in fitting_keeps modulus 10 b (omega (arith, found.below)) (omega (arith, found.is))
 
     -- a progression beside d is absent only where the points are too many, or the asked size is no power of two up to 1,024
-    pub progression_beside : (d : Progression F E prime field) (n b : ℕ) → log_within 10 n ≡ Some b → 2 ^ d.bits + n ≤ modulus → beside_of d n ≢ None
+    pub progression_beside : (d : Progression F E prime field eqs adds subs muls negs) (n b : ℕ) → log_within 10 n ≡ Some b → 2 ^ d.bits + n ≤ modulus → beside_of d n ≢ None
     progression_beside d n b is room f =
-        let by_test : Bool → Option (Progression F E prime field) = λ u. elim u [ true ↦ made (term ops d.start d.step (2 ^ d.bits)) d.step b | false ↦ None ] in
+        let by_test : Bool → Option (Progression F E prime field eqs adds subs muls negs) = λ u. elim u [ true ↦ made (term ops d.start d.step (2 ^ d.bits)) d.step b | false ↦ None ] in
         made_present (term ops d.start d.step (2 ^ d.bits)) d.step b d.stepped (beside_fits d n b is room)
         (sym (ap (beside_by d n) is ∙ ap by_test (le-leb (2 ^ d.bits + n) modulus room)) ∙ f)
 
-    pub progression_parted : (d e : Progression F E prime field) (i k : ℕ) → pieces_of d i k ≡ Some e → PieceOf 𝟘 (points_of d) i k (points_of e)
+    pub progression_parted : (d e : Progression F E prime field eqs adds subs muls negs) (i k : ℕ) → pieces_of d i k ≡ Some e → PieceOf 𝟘 (points_of d) i k (points_of e)
     progression_parted d e i k = by_log (log_within d.bits k) refl
       where
         by_log : (r : Option ℕ) → log_within d.bits k ≡ r → piece_by d i k r ≡ Some e → PieceOf 𝟘 (points_of d) i k (points_of e)
@@ -202,7 +207,7 @@ module _ {F : Type 0} (prime : PrimeMeaning F) (field : FieldMeaning F) (named :
                 ∙ ap (λ m. nat ops m ⊗ (nat ops (2 ^ l) ⊗ d.step)) (sym first)
 
             by_test : (u : Bool) → ltb i k ≡ u
-                → elim u as (λ _. Option (Progression F E prime field)) [ true ↦ made (term ops d.start d.step i) (or_one field (nat ops k ⊗ d.step)) (d.bits - l) | false ↦ None ] ≡ Some e
+                → elim u as (λ _. Option (Progression F E prime field eqs adds subs muls negs)) [ true ↦ made (term ops d.start d.step i) (or_one field (nat ops k ⊗ d.step)) (d.bits - l) | false ↦ None ] ≡ Some e
                 → PieceOf 𝟘 (points_of d) i k (points_of e)
             by_test false at f = let z : ◌≡◌ {A = ℕ} 0 1 = cc in absurd (omega arith)
             by_test true at f =
@@ -219,7 +224,7 @@ module _ {F : Type 0} (prime : PrimeMeaning F) (field : FieldMeaning F) (named :
                 subst P (sym points)
                 (subst Q (sym found.is) (piece_terms a s _ d.bits l i less below (steps less (dec_lt l d.bits))))
 
-    pub progression_unparted : (d : Progression F E prime field) (i k : ℕ) → i < k → length (points_of d) % k ≡ 0 → pieces_of d i k ≡ None → ⊥
+    pub progression_unparted : (d : Progression F E prime field eqs adds subs muls negs) (i k : ℕ) → i < k → length (points_of d) % k ≡ 0 → pieces_of d i k ≡ None → ⊥
     progression_unparted d i k below divides = by_log (log_within d.bits k) refl
       where
         by_log : (r : Option ℕ) → log_within d.bits k ≡ r → piece_by d i k r ≡ None → ⊥
@@ -231,7 +236,7 @@ module _ {F : Type 0} (prime : PrimeMeaning F) (field : FieldMeaning F) (named :
         by_log (Some l) is f = by_test (ltb i k) refl f
           where
             by_test : (u : Bool) → ltb i k ≡ u
-                → elim u as (λ _. Option (Progression F E prime field)) [ true ↦ made (term ops d.start d.step i) (or_one field (nat ops k ⊗ d.step)) (d.bits - l) | false ↦ None ] ≡ None → ⊥
+                → elim u as (λ _. Option (Progression F E prime field eqs adds subs muls negs)) [ true ↦ made (term ops d.start d.step i) (or_one field (nat ops k ⊗ d.step)) (d.bits - l) | false ↦ None ] ≡ None → ⊥
             by_test true at f =
                 let fits = d.fits in
                 made_present (term ops d.start d.step i) (or_one field (nat ops k ⊗ d.step)) (d.bits - l) (or_one_nonzero (nat ops k ⊗ d.step)) (omega arith) f
