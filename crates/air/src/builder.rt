@@ -9,8 +9,8 @@ use expression::Leaf;
 use field::traits::Field;
 use std::ops::{Add, Mul, Range, Sub};
 
-// What an AIR reads, at most; the number of its boundary cells; and a degree, where it declares one.
-#[derive(Clone, Copy)]
+// What an AIR reads, at most; the number of its boundary cells; and a degree, where it declares one. The default reads nothing.
+#[derive(Clone, Copy, Default)]
 pub struct Layout {
     pub width: usize,
     pub preprocessed_width: usize,

@@ -33,13 +33,9 @@ impl<F: Field> Air<F> for StationAir {
     fn layout(&self) -> Layout {
         Layout {
             width: 9,
-            preprocessed_width: 0,
             num_public_values: 2,
-            num_periodic_columns: 0,
             main_next: true,
-            preprocessed_next: false,
-            boundary_io: 0,
-            max_constraint_degree: None,
+            ..Layout::default()
         }
     }
 

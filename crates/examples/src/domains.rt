@@ -11,6 +11,7 @@ pub fn worked_domains()
 
 #[cfg(test)]
 mod tests {
+    use crate::told::{number, pair, parts};
     use cosets::{Coset, arith as coset};
     use domain::periodic::Periodic;
     use domain::split;
@@ -30,10 +31,6 @@ mod tests {
 
     type BigLine = Progression<BabyBear, Pair<BabyBear>>;
 
-    fn number<F: PrimeField>(x: Option<F>) -> Option<u32> {
-        x.map(|x| x.number())
-    }
-
     // The size, the first point and the last.
     fn shape<D: Domain>(d: Option<D>) -> Option<(usize, u32, u32)> {
         let d = d?;
@@ -50,6 +47,7 @@ mod tests {
         shape(d?.piece(i, k))
     }
 
+    // A name for each, so that a test names no fields.
     fn turn(size: usize) -> Option<Turn> {
         coset::coset(Seventeen::one(), size)
     }
@@ -146,18 +144,6 @@ mod tests {
         Ok(())
     }
 
-    fn parts(x: Option<Pair<BabyBear>>) -> Option<(u32, u32)> {
-        x.map(|x| (x.base.number(), x.root.number()))
-    }
-
-    // √11
-    fn root() -> Pair<BabyBear> {
-        Pair {
-            base: BabyBear::zero(),
-            root: BabyBear::one(),
-        }
-    }
-
     fn vanishing<D: Domain>(d: Option<D>, z: D::Ext) -> Option<D::Ext> {
         d.map(|d| d.vanishing_at(z))
     }
@@ -212,7 +198,8 @@ mod tests {
 
     #[test]
     fn values_at_pairs(rt: HostRuntime) {
-        let z = root();
+        // √11
+        let z = pair(0, 1);
         assert_eq!(rt; parts(vanishing(big_turn(2), z)), Some((10, 0)));
         assert_eq!(rt; parts(next(big_turn(2), z)), Some((0, 2013265920)));
         assert_eq!(rt;

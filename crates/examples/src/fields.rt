@@ -1,6 +1,7 @@
 // Fields: inverses modulo 17, products of pairs, roots of unity and values of polynomials, with their numbers.
 #[cfg(test)]
 mod tests {
+    use crate::told::{number, pair, parts};
     use field::extension::Extension;
     use field::traits::{Field, PrimeField};
     use field::{horner, roots};
@@ -10,21 +11,6 @@ mod tests {
 
     // The inverses of 1 to 16 modulo 17.
     const INVERSES: [u32; 16] = [1, 9, 6, 13, 7, 3, 5, 15, 2, 12, 14, 10, 4, 11, 8, 16];
-
-    fn number<F: PrimeField>(x: Option<F>) -> Option<u32> {
-        x.map(F::number)
-    }
-
-    fn parts(x: Option<Pair<BabyBear>>) -> Option<(u32, u32)> {
-        x.map(|x| (x.base.number(), x.root.number()))
-    }
-
-    fn pair(base: u32, root: u32) -> Pair<BabyBear> {
-        Pair {
-            base: BabyBear::from_u32(base),
-            root: BabyBear::from_u32(root),
-        }
-    }
 
     fn check_pair(rt: &impl Abort, x: Pair<BabyBear>, base: u32, root: u32) {
         assert_eq!(rt; x.base.number(), base);

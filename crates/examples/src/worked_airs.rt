@@ -24,16 +24,7 @@ impl<F: Field> Air<F> for Three {
     ghost sound = { λ _. record { within = refl; counted = refl } };
 
     fn layout(&self) -> Layout {
-        Layout {
-            width: 0,
-            preprocessed_width: 0,
-            num_public_values: 0,
-            num_periodic_columns: 0,
-            main_next: false,
-            preprocessed_next: false,
-            boundary_io: 0,
-            max_constraint_degree: None,
-        }
+        Layout::default()
     }
 
     fn periodic_column(&self, _column: usize) -> &[F] {
@@ -64,14 +55,8 @@ impl<F: Field> Air<F> for Declaring {
 
     fn layout(&self) -> Layout {
         Layout {
-            width: 0,
-            preprocessed_width: 0,
-            num_public_values: 0,
-            num_periodic_columns: 0,
-            main_next: false,
-            preprocessed_next: false,
-            boundary_io: 0,
             max_constraint_degree: self.degree,
+            ..Layout::default()
         }
     }
 
@@ -125,16 +110,13 @@ fn most_chunks() -> usize
 #[cfg(test)]
 mod tests {
     use super::*;
+    use crate::told::number;
     use air::picker::constraint_value;
     use airs::weight::WeightAir;
     use symbolic::log2_ceil;
     use walk::{StationRow, Table, WalkEnds};
 
     // A number from 0 to 16, and nothing where there was no answer.
-    fn number(x: Option<Seventeen>) -> Option<u32> {
-        x.map(|x| x.number())
-    }
-
     // A station, and eight bits from a byte.
     fn row(station: u32, byte: u32) -> StationRow<Seventeen> {
         let words = [

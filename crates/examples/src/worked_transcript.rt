@@ -7,9 +7,10 @@ mod tests {
     use pair::Pair;
     use rehearsal::rehearse::{Rehearsal, rehearse};
     use rehearsal::request::Request;
-    use rehearsal::standing::Standing;
+    use rehearsal::standing::{Drawn, Standing};
     use residue::moduli::{BabyBear, Seventeen};
     use sponge::{Duplex, Rolling, Sponge};
+    use std::process::Abort;
     use transcript::challenge::Challenge;
     use transcript::input::{ConstraintInput, OodInput};
     use transcript::seed::seed_length;
@@ -21,34 +22,42 @@ mod tests {
         }
     }
 
+    // Three words of a new sponge, two once it took 1 to 4, and one once it took five numbers.
+    fn check_words<S: Sponge>(rt: &impl Abort, new: S, words: [u32; 6]) {
+        let [first, second, third, fourth, fifth, sixth] = words;
+        let mut sponge = new;
+        assert_eq!(rt; sponge.give(), first);
+        assert_eq!(rt; sponge.give(), second);
+        assert_eq!(rt; sponge.give(), third);
+        let mut sponge = new;
+        take_all(&mut sponge, &[1, 2, 3, 4]);
+        assert_eq!(rt; sponge.give(), fourth);
+        assert_eq!(rt; sponge.give(), fifth);
+        let mut sponge = new;
+        take_all(&mut sponge, &[4294967295, 7, 4294967295, 0, 5]);
+        assert_eq!(rt; sponge.give(), sixth);
+    }
+
     #[test]
     fn rolling_words(rt: HostRuntime) {
-        let mut sponge = Rolling::new();
-        assert_eq!(rt; sponge.give(), 1013904223);
-        assert_eq!(rt; sponge.give(), 1196435762);
-        assert_eq!(rt; sponge.give(), 3519870697);
-        let mut sponge = Rolling::new();
-        take_all(&mut sponge, &[1, 2, 3, 4]);
-        assert_eq!(rt; sponge.give(), 275615725);
-        assert_eq!(rt; sponge.give(), 3346837608);
-        let mut sponge = Rolling::new();
-        take_all(&mut sponge, &[4294967295, 7, 4294967295, 0, 5]);
-        assert_eq!(rt; sponge.give(), 2283570892);
+        check_words(
+            &rt,
+            Rolling::new(),
+            [
+                1013904223, 1196435762, 3519870697, 275615725, 3346837608, 2283570892,
+            ],
+        );
     }
 
     #[test]
     fn duplex_words(rt: HostRuntime) {
-        let mut sponge = Duplex::new();
-        assert_eq!(rt; sponge.give(), 3694449955);
-        assert_eq!(rt; sponge.give(), 562918573);
-        assert_eq!(rt; sponge.give(), 3579597592);
-        let mut sponge = Duplex::new();
-        take_all(&mut sponge, &[1, 2, 3, 4]);
-        assert_eq!(rt; sponge.give(), 2379111717);
-        assert_eq!(rt; sponge.give(), 2167255149);
-        let mut sponge = Duplex::new();
-        take_all(&mut sponge, &[4294967295, 7, 4294967295, 0, 5]);
-        assert_eq!(rt; sponge.give(), 1039412061);
+        check_words(
+            &rt,
+            Duplex::new(),
+            [
+                3694449955, 562918573, 3579597592, 2379111717, 2167255149, 1039412061,
+            ],
+        );
     }
 
     // Asking leaves the sponge; 3 bits pass at 6, 14, 22 .., and none passes above 20.
@@ -155,29 +164,25 @@ mod tests {
     }
 
     fn drawn_17(end: Standing<Seventeen>) -> Option<(u32, u32, u32)> {
-        match end {
-            Standing::Done(drawn) => Some((
-                drawn.alpha.number(),
-                drawn.zeta.number(),
-                drawn.witness,
-            )),
-            _ => None,
-        }
+        let Standing::Done(drawn) = end else {
+            return None;
+        };
+        Some((drawn.alpha.number(), drawn.zeta.number(), drawn.witness))
     }
 
     fn drawn_pairs(end: Standing<Pair<BabyBear>>) -> Option<([u32; 4], u32)> {
-        match end {
-            Standing::Done(drawn) => Some((
-                [
-                    drawn.alpha.base.number(),
-                    drawn.alpha.root.number(),
-                    drawn.zeta.base.number(),
-                    drawn.zeta.root.number(),
-                ],
-                drawn.witness,
-            )),
-            _ => None,
-        }
+        let Standing::Done(
+            Drawn {
+                alpha,
+                zeta,
+                witness,
+            },
+        ) = end
+        else {
+            return None;
+        };
+        let numbers = [alpha.base, alpha.root, zeta.base, zeta.root].map(BabyBear::number);
+        Some((numbers, witness))
     }
 
     // A prover's budget is 100.
@@ -276,10 +281,10 @@ mod tests {
     }
 
     fn failure(end: Standing<Seventeen>) -> Option<u32> {
-        match end {
-            Standing::Ended(failure) => Some(failure.number()),
-            _ => None,
-        }
+        let Standing::Ended(failure) = end else {
+            return None;
+        };
+        Some(failure.number())
     }
 
     // A witness that does not pass, a spent budget, and a preprocessed commitment that nothing describes.
