@@ -1,7 +1,7 @@
 // Tells the domain on which the rows would stand: a coset at the second prime, where their number is a power of two.
 use cosets::{Coset, arith};
 use domain::powers;
-use domain::traits::Domain;
+use domain::traits::Points;
 use field::traits::PrimeField;
 use pair::Pair;
 use residue::moduli::BabyBear;
