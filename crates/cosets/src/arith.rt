@@ -14,7 +14,7 @@ ghost use Rattle.field.specs.TwoAdic.{root};
 use crate::Coset;
 use domain::powers;
 use domain::selectors::Selectors;
-use domain::traits::Domain;
+use domain::traits::{Domain, Points};
 use field::extension::Extension;
 use field::roots;
 use field::roots::TwoAdic;
@@ -128,13 +128,26 @@ fn chosen<E: Field>(v: E, u: E, back: E, inverse: E) -> Selectors<E>
     }
 }
 
-impl<F: TwoAdic, E: Extension<F>> Domain for Coset<F, E> {
+impl<F: TwoAdic, E: Extension<F>> Points for Coset<F, E> {
     type Base = F;
 
     type Ext = E;
 
     ghost points = { points_of };
 
+    fn size(self) -> usize {
+        1 << self.bits
+    }
+
+    fn point(self, i: usize) -> F {
+        if i >= self.size() {
+            return F::zero();
+        }
+        turned_by(self, i)
+    }
+}
+
+impl<F: TwoAdic, E: Extension<F>> Domain for Coset<F, E> {
     ghost scale = { scale_of };
 
     ghost first = { first_of E.Field.own E.Extension.own };
@@ -163,19 +176,8 @@ impl<F: TwoAdic, E: Extension<F>> Domain for Coset<F, E> {
 
     ghost unparted = { coset_unparted F.TwoAdic.own F.PrimeField.own F.Field.own F.TwoAdic.adic };
 
-    fn size(self) -> usize {
-        1 << self.bits
-    }
-
     fn first_point(self) -> F {
         self.shift
-    }
-
-    fn point(self, i: usize) -> F {
-        if i >= self.size() {
-            return F::zero();
-        }
-        turned_by(self, i)
     }
 
     fn vanishing_at(self, z: E) -> E {

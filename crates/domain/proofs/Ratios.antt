@@ -1,5 +1,5 @@
 -- Products over the points of a domain. Assumes nothing.
-use Rattle.std.proofs.Common.{◌≡◌, ℕ, suc, ◌+◌, ◌-◌, ◌<◌, List, [], ◌∷◌, Some, None, Option, refl, ap, ◌∙◌, arith}
+use Rattle.std.proofs.Common.{◌≡◌, ℕ, suc, ◌+◌, ◌-◌, ◌<◌, List, [], ◌∷◌, map, length, zero, Some, None, Option, refl, ap, ◌∙◌, arith}
 use Rattle.algebra.specs.Ring.{RingOps, sub}
 use Rattle.algebra.specs.Field.{FieldLaws, or_zero, total}
 use Rattle.algebra.specs.Domain.{vanishing}
@@ -20,6 +20,15 @@ module _ {F E : Type 0} (base : FieldMeaning F) (over : ExtensionMeaning E F) wh
 
   pub later_none : (points : List F) (i n : ℕ) → n ≡ 0 → later base over points i n ≡ []
   later_none points i n none = ap (later base over points i) none
+
+  -- all points
+  later_tail : (x : F) (xs : List F) (i n : ℕ) → later base over (x ∷ xs) (suc i) n ≡ later base over xs i n
+  later_tail x xs i zero = refl
+  later_tail x xs i (suc n) = ap (λ ps. raised base over xs i ∷ ps) (later_tail x xs (suc i) n)
+
+  pub later_all : (xs : List F) → later base over xs 0 (length xs) ≡ map over.embedded xs
+  later_all [] = refl
+  later_all (x ∷ xs) = ap (λ ps. over.embedded x ∷ ps) (later_tail x xs 0 (length xs) ∙ later_all xs)
 
 module _ {R : Type 0} {ops : RingOps R} {inverse : R → Option R} (laws : FieldLaws ops inverse) where
   open ops use {zero as 𝟘, one as 𝟙, mul as ◌⊗◌}

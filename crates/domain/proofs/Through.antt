@@ -10,9 +10,10 @@ use Rattle.algebra.proofs.RingSolver.{ring_from, shapes, ◌·◌}
 use Rattle.field.specs.Extension.{Extends}
 use Rattle.field.specs.declared.extension.Extension.{Ghosts as ExtensionMeaning}
 use Rattle.field.specs.declared.traits.Field.{Ghosts as FieldMeaning}
-use Rattle.domain.specs.Points.{raised, later}
+use Rattle.domain.specs.Points.{raised}
 use Rattle.domain.specs.Periodic.{samples, interpolated, Through}
 use Rattle.domain.proofs.Embedding.{keeps_neg}
+use Rattle.domain.proofs.Ratios.{later_all}
 use Rattle.domain.proofs.Sampled.{abscissas_samples}
 
 module _ {F E : Type 0} (base : FieldMeaning F) (above : FieldMeaning E) (over : ExtensionMeaning E F) where
@@ -24,14 +25,6 @@ module _ {F E : Type 0} (base : FieldMeaning F) (above : FieldMeaning E) (over :
 
   abbrev e : F → E
   e = over.embedded
-
-  later_tail : (x : F) (xs : List F) (i n : ℕ) → later base over (x ∷ xs) (suc i) n ≡ later base over xs i n
-  later_tail x xs i zero = refl
-  later_tail x xs i (suc n) = ap (λ ps. raised base over xs i ∷ ps) (later_tail x xs (suc i) n)
-
-  later_all : (xs : List F) → later base over xs 0 (length xs) ≡ map e xs
-  later_all [] = refl
-  later_all (x ∷ xs) = ap (λ ps. e x ∷ ps) (later_tail x xs 0 (length xs) ∙ later_all xs)
 
   module _ (points column : List F) where
     pub length_samples : (i n : ℕ) → length (samples base above over points column i n) ≡ n
@@ -75,7 +68,7 @@ module _ {F E : Type 0} (base : FieldMeaning F) (above : FieldMeaning E) (over :
       distinct_samples : Distinct (abscissas (samples base above over points column 0 (length points)))
       distinct_samples =
           let P : List E → Type 0 = λ ps. Distinct ps in
-          subst P (sym (abscissas_samples base above over points column 0 (length points) ∙ later_all points)) (keeps_distinct points distinct)
+          subst P (sym (abscissas_samples base above over points column 0 (length points) ∙ later_all base over points)) (keeps_distinct points distinct)
 
       pub takes : (i : ℕ) → i < length points
           → interpolated base above over points column (raised base over points i) ≡ raised base over column (i % length column)

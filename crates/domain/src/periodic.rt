@@ -18,7 +18,7 @@ fn repeated<F: Field>(column: &[F], i: usize) -> F
 // Lagrange's sum.
 fn interpolated<D: Domain>(d: D, column: &[D::Base], z: D::Ext) -> D::Ext
     requires { 0 < length column.now }
-    ensures { result ≡ through D.Base.Field.own D.Ext.Field.own D.Ext.Extension.own (D.Domain.points d) column.now z }
+    ensures { result ≡ through D.Base.Field.own D.Ext.Field.own D.Ext.Extension.own (D.Points.points d) column.now z }
 {
     let size = d.size();
     let mut value = <D::Ext as Field>::zero();
@@ -37,8 +37,8 @@ pub trait Periodic: Domain {
     // The value at z of the polynomial of degree below n that takes column[i mod P] at point i.
     // Absent unless P is a power of two and at most n.
     fn periodic_value(self, column: &[Self::Base], z: Self::Ext) -> Option<Self::Ext>
-        ensures through { Through Self.Base.Field.own Self.Ext.Field.own Self.Ext.Extension.own (Self.Domain.points self) column.now }
-        ensures value { result ≡ periodic Self.Base.Field.own Self.Ext.Field.own Self.Ext.Extension.own (Self.Domain.points self) column.now z }
+        ensures through { Through Self.Base.Field.own Self.Ext.Field.own Self.Ext.Extension.own (Self.Points.points self) column.now }
+        ensures value { result ≡ periodic Self.Base.Field.own Self.Ext.Field.own Self.Ext.Extension.own (Self.Points.points self) column.now z }
     {
         let _log = powers::log_within(63, column.len())?;
         if column.len() > self.size() {

@@ -18,8 +18,8 @@ pub enum Unsplit {
 // Writes pieces 0 to k - 1 of k; an error writes nothing.
 // The slice is the caller's, since the library has no heap.
 pub fn split<D: Domain>(d: D, k: usize, pieces: &mut [D]) -> Result<(), Unsplit>
-    ensures answer { result ≡ split_answer (length (D.Domain.points d)) k (length pieces.old) }
-    ensures slice { pieces.new ≡ split_by (split_answer (length (D.Domain.points d)) k (length pieces.old)) (λ i. D.Domain.pieces d i k) k pieces.old }
+    ensures answer { result ≡ split_answer (length (D.Points.points d)) k (length pieces.old) }
+    ensures slice { pieces.new ≡ split_by (split_answer (length (D.Points.points d)) k (length pieces.old)) (λ i. D.Domain.pieces d i k) k pieces.old }
 {
     if k == 0 {
         return Err(Unsplit::NoPieces);

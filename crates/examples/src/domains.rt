@@ -15,7 +15,7 @@ mod tests {
     use cosets::{Coset, arith as coset};
     use domain::periodic::Periodic;
     use domain::split;
-    use domain::traits::Domain;
+    use domain::traits::{Domain, Points};
     use field::extension::Extension;
     use field::traits::{Field, PrimeField};
     use pair::Pair;

@@ -1,8 +1,5 @@
 // Progressions are domains.
-ghost use Rattle.std.specs.Prelude.{◌≡◌, ◌-◌, ◌^◌, ◌<◌, ◌≢◌, ◌≤◌, map, Some};
-ghost use Rattle.algebra.specs.Domain.{vanishing};
-ghost use Rattle.algebra.specs.Field.{total};
-ghost use Rattle.algebra.specs.Lagrange.{basis};
+ghost use Rattle.std.specs.Prelude.{◌≡◌, ◌^◌, ◌<◌, ◌≢◌, ◌≤◌, Some};
 ghost use Rattle.domain.specs.Logarithm.{log_within};
 ghost use Rattle.progressions.specs.Fitting.{fitting};
 ghost use Rattle.progressions.specs.Progression.{made, placed, natural_of, or_one, term as term_at, terms, points_of, first_of, last_of, transition_of, following_of, beside_of, pieces_of};
@@ -11,9 +8,9 @@ ghost use Rattle.std.proofs.Common.{rules};
 
 use crate::Progression;
 use domain::periodic::Periodic;
-use domain::powers;
 use domain::selectors::Selectors;
-use domain::traits::Domain;
+use domain::traits::{Domain, Points};
+use domain::{powers, products};
 use field::extension::Extension;
 use field::traits::{Field, PrimeField};
 use std::marker::PhantomData;
@@ -104,40 +101,41 @@ pub fn natural<F: PrimeField, E: Extension<F>>(bits: u32) -> Option<Progression<
     made(F::zero(), F::one(), bits)
 }
 
-// The product of z - p over the terms p from number `from` on and before number `to`.
-#[tactic(auto, using(crate::specs::Laws::Terms::terms_none))]
-fn vanishing<F: PrimeField, E: Extension<F>>(d: Progression<F, E>, from: u32, to: u32, z: E) -> E
-    ensures { result ≡ vanishing E.Field.ops (map E.Extension.embedded (terms F.Field.ops d.start d.step from (to - from))) z }
+// 1 at the first point, and 0 at the others.
+fn first<F: PrimeField, E: Extension<F>>(d: Progression<F, E>, z: E) -> E
+    ensures { result ≡ first_of E.Field.own E.Extension.own d z }
 {
-    let mut value = E::one();
-    for i in from..to {
-        value = value * (z - E::embed(term(d, i)));
-    }
-    value
+    products::basis(d, E::embed(d.point(0)), 1, d.size(), z)
 }
 
-// The product of (z - p) / (term a - p) over these terms.
-#[tactic(auto, using(domain::proofs::Ratios::basis_ratio))]
-fn basis<F: PrimeField, E: Extension<F>>(
-    d: Progression<F, E>,
-    a: u32,
-    from: u32,
-    to: u32,
-    z: E,
-) -> E
-    ensures { result ≡ basis E.Field.ops (total E.Field.ops E.Field.inverted) (E.Extension.embedded (term_at F.Field.ops d.start d.step a)) (map E.Extension.embedded (terms F.Field.ops d.start d.step from (to - from))) z }
+// 1 at the last point, and 0 at the others.
+fn last<F: PrimeField, E: Extension<F>>(d: Progression<F, E>, z: E) -> E
+    ensures { result ≡ last_of E.Field.own E.Extension.own d z }
 {
-    let at = E::embed(term(d, a));
-    vanishing(d, from, to, z) * powers::inverse_or_zero(vanishing(d, from, to, at))
+    let others = d.size() - 1;
+    products::basis(d, E::embed(d.point(others)), 0, others, z)
 }
 
-impl<F: PrimeField, E: Extension<F>> Domain for Progression<F, E> {
+impl<F: PrimeField, E: Extension<F>> Points for Progression<F, E> {
     type Base = F;
 
     type Ext = E;
 
     ghost points = { points_of };
 
+    fn size(self) -> usize {
+        count(self) as usize
+    }
+
+    fn point(self, i: usize) -> F {
+        if i >= self.size() {
+            return F::zero();
+        }
+        term(self, i as u32)
+    }
+}
+
+impl<F: PrimeField, E: Extension<F>> Domain for Progression<F, E> {
     ghost scale = { λ _. F.Field.ops.one };
 
     ghost first = { first_of E.Field.own E.Extension.own };
@@ -166,31 +164,19 @@ impl<F: PrimeField, E: Extension<F>> Domain for Progression<F, E> {
 
     ghost unparted = { progression_unparted F.PrimeField.own F.Field.own F.PrimeField.numbers };
 
-    fn size(self) -> usize {
-        count(self) as usize
-    }
-
     fn first_point(self) -> F {
         term(self, 0)
     }
 
-    fn point(self, i: usize) -> F {
-        if i >= self.size() {
-            return F::zero();
-        }
-        term(self, i as u32)
-    }
-
     fn vanishing_at(self, z: E) -> E {
-        vanishing(self, 0, count(self), z)
+        products::vanishing(self, 0, self.size(), z)
     }
 
     fn selectors_at(self, z: E) -> Option<Selectors<E>> {
         let inverse = self.vanishing_at(z).inverse()?;
-        let count = count(self);
-        let last = basis(self, count - 1, 0, count - 1, z);
+        let last = last(self, z);
         Some(Selectors {
-            first: basis(self, 0, 1, count, z),
+            first: first(self, z),
             last,
             transition: E::one() - last,
             inverse,

@@ -1,5 +1,5 @@
 -- The terms of a progression, and products over them. Assumes nothing.
-use Rattle.std.proofs.Common.{min, pow_pos, pow_mono, ◌≡◌, ℕ, zero, suc, ◌+◌, ◌-◌, ◌*◌, ◌^◌, ◌<◌, ◌≤◌, Bool, true, false, leb, ◌≢◌, [], ◌∷◌, length, get_or, Option, sym, refl, ap, ◌∙◌, ap₂, add-zero, add-suc, suc-add, arith, leb-false, leb-true}
+use Rattle.std.proofs.Common.{min, pow_pos, pow_mono, ◌≡◌, ℕ, zero, suc, ◌+◌, ◌*◌, ◌^◌, ◌<◌, ◌≤◌, Bool, true, false, leb, ◌≢◌, [], ◌∷◌, map, length, get_or, Option, sym, refl, ap, ◌∙◌, ap₂, add-zero, add-suc, suc-add, arith, leb-false, leb-true}
 use native.Mathlib.Decide.{dec_lt}
 use Rattle.algebra.specs.Ring.{RingOps, RingLaws, nat, sub}
 use Rattle.algebra.specs.Field.{FieldLaws}
@@ -10,6 +10,9 @@ use Rattle.algebra.proofs.CosetProduct.{double}
 use Rattle.algebra.proofs.FieldBasics.{division, zero_of_product}
 use Rattle.algebra.proofs.RingSolver.{ring, ring_from, shapes, fact, ◌·◌, ◌⊞◌}
 use Rattle.field.specs.Numbers.{Numbered}
+use Rattle.field.specs.declared.extension.Extension.{Ghosts as ExtensionMeaning}
+use Rattle.field.specs.declared.traits.Field.{Ghosts as FieldMeaning}
+use Rattle.domain.specs.Points.{later}
 use Rattle.progressions.specs.Fitting.{fitting}
 use Rattle.progressions.specs.Progression.{term, terms}
 
@@ -67,15 +70,15 @@ fitting_is p most r low high =
         absurd (omega (arith, fitting_fits p most some, large, double r, high))
     by_order keeps (no rest) = omega (arith, keeps, fitting_within p most)
 
--- the first of the terms that are left
-pub terms_next : {F : Type 0} (ops : RingOps F) (a s : F) (i to : ℕ) → i < to → terms ops a s i (to - i) ≡ term ops a s i ∷ terms ops a s (i + 1) (to - (i + 1))
-terms_next ops a s i to less =
-    let one_more : to - i ≡ suc (to - (i + 1)) = omega arith in
-    let next : suc i ≡ i + 1 = omega arith in
-    ap (terms ops a s i) one_more ∙ ap (λ k. term ops a s i ∷ terms ops a s k (to - (i + 1))) next
-
-pub terms_none : {F : Type 0} (ops : RingOps F) (a s : F) (i n : ℕ) → n ≡ 0 → terms ops a s i n ≡ []
-terms_none ops a s i n none = ap (terms ops a s i) none
+-- the points of a progression in the field above
+pub later_terms : {F E : Type 0} (field : FieldMeaning F) (over : ExtensionMeaning E F) (a s : F) (i n k m : ℕ) → k + m ≤ n
+    → later field over (terms field.ops a s i n) k m ≡ map over.embedded (terms field.ops a s (i + k) m)
+later_terms field over a s i n k zero within = refl
+later_terms field over a s i n k (suc m) within =
+    let next : i + suc k ≡ suc (i + k) = omega arith in
+    ap₂ ◌∷◌
+    (ap over.embedded (term_at field.ops a s field.ops.zero i n k (omega arith)))
+    (later_terms field over a s i n (suc k) m (omega arith) ∙ ap (λ j. map over.embedded (terms field.ops a s j m)) next)
 
 module _ {F : Type 0} {ops : RingOps F} (laws : RingLaws ops) where
   open ops use {zero as 𝟘, one as 𝟙, add as ◌⊕◌, mul as ◌⊗◌, neg as ⊖◌}

@@ -10,5 +10,5 @@ invariant-loop-i g l =
     let base = g.D.Base.Field in
     let above = g.D.Ext.Field in
     let over = g.D.Ext.Extension in
-    let points = g.D.Domain.points l.d in
+    let points = g.D.Points.points l.d in
     l.value ≡ lagrange_after above.ops (total above.ops above.inverted) (earlier base above over points l.i) (samples base above over points l.column l.i (length points - l.i)) l.z

@@ -6,5 +6,5 @@ use Rattle.domain.proofs.products.vanishing.Given as goal
 abbrev pub invariant-loop-i : goal.invariant-loop-i
 invariant-loop-i g l =
     let o = g.D.Ext.Field.ops in
-    let rest : ℕ → g.row.D-Ext.Denot = λ i. vanishing o (later g.D.Base.Field g.D.Ext.Extension (g.D.Domain.points l.d) i (l.to - i)) l.z in
+    let rest : ℕ → g.row.D-Ext.Denot = λ i. vanishing o (later g.D.Base.Field g.D.Ext.Extension (g.D.Points.points l.d) i (l.to - i)) l.z in
     o.mul l.value (rest l.i) ≡ rest l.from

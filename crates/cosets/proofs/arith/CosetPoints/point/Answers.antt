@@ -4,7 +4,7 @@ use Rattle.algebra.proofs.CosetVanishing.{coset_at}
 use Rattle.cosets.specs.Coset.{step_of, points_of}
 use Rattle.cosets.specs.Laws.Coset.{coset_length}
 use Rattle.domain.proofs.Sampled.{get_d_past}
-use Rattle.cosets.proofs.arith.CosetDomain.point.Goals as goal
+use Rattle.cosets.proofs.arith.CosetPoints.point.Goals as goal
 
 pub returns : goal.returns
 returns g c =

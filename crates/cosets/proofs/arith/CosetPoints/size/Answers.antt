@@ -1,7 +1,7 @@
 use Rattle.std.proofs.Common.{◌%◌, ◌^◌, ◌<◌, sym, ap, ◌∙◌, mod-eq_of_lt, one-mul, arith}
 use lib.Pow.{pow-lt}
 use Rattle.cosets.specs.Laws.Coset.{coset_length}
-use Rattle.cosets.proofs.arith.CosetDomain.size.Goals as goal
+use Rattle.cosets.proofs.arith.CosetPoints.size.Goals as goal
 
 pub returns : goal.returns
 returns g c =

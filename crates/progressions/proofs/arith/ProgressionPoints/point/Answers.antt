@@ -3,7 +3,7 @@ use Rattle.progressions.specs.Progression.{term, points_of}
 use Rattle.progressions.specs.Laws.Progression.{progression_length, few_points}
 use Rattle.progressions.specs.Laws.Terms.{term_at}
 use Rattle.domain.proofs.Sampled.{get_d_past}
-use Rattle.progressions.proofs.arith.ProgressionDomain.point.Goals as goal
+use Rattle.progressions.proofs.arith.ProgressionPoints.point.Goals as goal
 
 pub overflow_cast-i : goal.overflow_cast-i
 overflow_cast-i g c =
