@@ -1,6 +1,12 @@
 -- Domains modulo 17 with their numbers. Assumes nothing.
-use Rattle.std.specs.Prelude.{◌≡◌, ℕ, ◌%◌, ◌<◌, ◌≤◌, ◌≢◌, [], ◌∷◌, Some, Option}
+use Rattle.std.specs.Prelude.{◌≡◌, ℕ, ◌%◌, ◌<◌, ◌≤◌, ◌≢◌, ◌==◌, [], ◌∷◌, Some, Option, ⊤}
 use Rattle.std.proofs.Common.{ap, arith, lit<, lit≤}
+use Rattle.std.specs.declared.cmp.PartialEq.{Ghosts as PartialEqMeaning}
+use Rattle.std.specs.declared.ops.Add.{Ghosts as AddMeaning}
+use Rattle.std.specs.declared.ops.Mul.{Ghosts as MulMeaning}
+use Rattle.std.specs.declared.ops.Neg.{Ghosts as NegMeaning}
+use Rattle.std.specs.declared.ops.Sub.{Ghosts as SubMeaning}
+use Rattle.algebra.specs.Ring.{sub}
 use Rattle.algebra.specs.Domain.{vanishing}
 use Rattle.algebra.specs.Field.{total}
 use Rattle.field.specs.declared.extension.Extension.{Ghosts as ExtensionMeaning}
@@ -37,6 +43,28 @@ prime = record { modulus = 17; numbered = λ x. x.value }
 abbrev pub two : TwoAdicMeaning (Residue 17)
 two = record { generated = three; odd = 1; bits = 4; apart = 3 }
 
+-- equality and the operators
+abbrev pub eqs : PartialEqMeaning (Residue 17)
+eqs = record { eq = λ a b. a.value == b.value }
+
+abbrev pub adds : AddMeaning (Residue 17) (Residue 17) (Residue 17)
+adds = record { can_add = λ a b. ⊤; add_gives = λ a b r. r ≡ seventeens.add a b }
+
+abbrev pub subs : SubMeaning (Residue 17) (Residue 17) (Residue 17)
+subs = record { can_sub = λ a b. ⊤; sub_gives = λ a b r. r ≡ sub seventeens a b }
+
+abbrev pub muls : MulMeaning (Residue 17) (Residue 17) (Residue 17)
+muls = record { can_mul = λ a b. ⊤; mul_gives = λ a b r. r ≡ seventeens.mul a b }
+
+abbrev pub negs : NegMeaning (Residue 17) (Residue 17)
+negs = record { can_neg = λ a. ⊤; neg_gives = λ a r. r ≡ seventeens.neg a }
+
+abbrev pub Turn : Type 0
+Turn = Coset (Residue 17) (Residue 17) two prime field eqs adds subs muls negs
+
+abbrev pub Line : Type 0
+Line = Progression (Residue 17) (Residue 17) prime field eqs adds subs muls negs
+
 -- the field over itself
 abbrev pub itself : ExtensionMeaning (Residue 17) (Residue 17)
 itself = record { dim = 1; embedded = λ x. x; basis = λ _. number 1 }
@@ -45,26 +73,26 @@ pub nonzero : (n : ℕ) → 0 < n % 17 → number n ≢ seventeens.zero
 nonzero n some e = let none : n % 17 ≡ 0 = ap (λ x. x.value) e in omega (arith, some, none)
 
 -- the coset of 2^bits points with the shift n
-abbrev pub turn : (n bits : ℕ) → 0 < n % 17 → bits ≤ 4 → Coset (Residue 17) (Residue 17) two prime field
+abbrev pub turn : (n bits : ℕ) → 0 < n % 17 → bits ≤ 4 → Turn
 turn n bits some fits = record { shift = number n; bits = bits; above = record {}; shifted = nonzero n some; fits = fits }
 
-abbrev pub natural : Coset (Residue 17) (Residue 17) two prime field
+abbrev pub natural : Turn
 natural = turn 1 2 (lit< tt) (lit≤ tt)
 
 -- the disjoint domain of size 8 of the coset of 4, and its two pieces
-abbrev pub eight : Coset (Residue 17) (Residue 17) two prime field
+abbrev pub eight : Turn
 eight = turn 3 3 (lit< tt) (lit≤ tt)
 
-abbrev pub even : Coset (Residue 17) (Residue 17) two prime field
+abbrev pub even : Turn
 even = turn 3 2 (lit< tt) (lit≤ tt)
 
-abbrev pub odd : Coset (Residue 17) (Residue 17) two prime field
+abbrev pub odd : Turn
 odd = turn 10 2 (lit< tt) (lit≤ tt)
 
-abbrev pub value : Coset (Residue 17) (Residue 17) two prime field → Residue 17 → Residue 17
+abbrev pub value : Turn → Residue 17 → Residue 17
 value d z = coset.vanish_of field itself d z
 
-abbrev pub line : Progression (Residue 17) (Residue 17) prime field
+abbrev pub line : Line
 line = record { start = number 0; step = number 1; bits = 2; above = record {}; stepped = nonzero 1 (lit< tt); fits = fitting_keeps 17 10 2 (lit≤ tt) (lit≤ tt) }
 
 abbrev pub line_value : Residue 17 → Residue 17
