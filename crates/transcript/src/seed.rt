@@ -1,6 +1,6 @@
 // The seed: what a new end takes before anything is sent.
-ghost use Rattle.std.specs.Prelude.{◌≡◌, ◌≤◌, length};
-ghost use Rattle.transcript.specs.Takes.{takes};
+ghost use Rattle.std.specs.Prelude.{◌≡◌, ◌≤◌, ◌++◌, length};
+ghost use Rattle.transcript.specs.Takes.{takes, be8};
 ghost use Rattle.transcript.specs.Seed.{counted_steps, number_bytes, instance, part, codes, step_lengths as lengths_of, seed, SeedLengths};
 
 use crate::absorb::{take_bytes, take_number, take_numbers};
@@ -55,32 +55,32 @@ fn take_steps<S: Sponge>(sponge: &mut S, shape: &StarkShape)
     }
 }
 
+// The instance numbers, with their count.
 fn take_instance<S: Sponge>(sponge: &mut S, shape: &StarkShape)
-    ensures { sponge.new ≡ takes S.steps (number_bytes (instance shape.now)) sponge.old }
+    ensures { sponge.new ≡ takes S.steps (be8 8 ++ number_bytes (instance shape.now)) sponge.old }
 {
-    take_numbers(
-        sponge,
-        &[
-            shape.log_ext_degree as u64,
-            shape.log_degree as u64,
-            shape.main_width as u64,
-            shape.preprocessed_width as u64,
-            shape.num_periodic_columns as u64,
-            shape.num_quotient_chunks as u64,
-            u64::from(shape.opens_main_next_row),
-            u64::from(shape.opens_preprocessed_next_row),
-        ],
-    );
+    let numbers = [
+        shape.log_ext_degree as u64,
+        shape.log_degree as u64,
+        shape.main_width as u64,
+        shape.preprocessed_width as u64,
+        shape.num_periodic_columns as u64,
+        shape.num_quotient_chunks as u64,
+        u64::from(shape.opens_main_next_row),
+        u64::from(shape.opens_preprocessed_next_row),
+    ];
+    take_number(sponge, numbers.len() as u64);
+    take_numbers(sponge, &numbers);
 }
 
 pub fn take_seed<S: Sponge>(sponge: &mut S, shape: &StarkShape)
     ensures { sponge.new ≡ takes S.steps (seed shape.now) sponge.old }
 {
+    let name = b"p3-uni-stark";
     sponge.take(1);
-    take_number(sponge, 12);
-    take_bytes(sponge, b"p3-uni-stark");
+    take_number(sponge, name.len() as u64);
+    take_bytes(sponge, name);
     take_steps(sponge, shape);
-    take_number(sponge, 8);
     take_instance(sponge, shape);
 }
 
