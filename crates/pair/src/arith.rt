@@ -49,6 +49,7 @@ impl Sub for Pair<BabyBear> {
 
     ghost sub_gives = { λ a b r. r ≡ sub pairs a b };
 
+    // As residues do: std's trait has no body to share.
     fn sub(self, rhs: Self) -> Self {
         self + -rhs
     }

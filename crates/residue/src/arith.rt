@@ -57,6 +57,7 @@ where
 
     ghost sub_gives = { λ a b r. r ≡ sub (residue_ops P ⟦<Self as Modulus<P>>⟧.prime.above_one) a b };
 
+    // So in each field: std's trait has no body to share.
     fn sub(self, rhs: Self) -> Self {
         self + -rhs
     }

@@ -24,6 +24,7 @@ fn run(rt: &HostRuntime) -> anyhow::Result<()> {
     tell(rt, &places[..count])
 }
 
+// The handle is passed beside what is told, as std passes it: a struct of both would say no more.
 fn tell(rt: &HostRuntime, rows: &[u32]) -> anyhow::Result<()> {
     risen::tell_list(rt, rows)?;
     stood::tell_domain(rt, rows)?;

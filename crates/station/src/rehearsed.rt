@@ -83,13 +83,7 @@ fn rehearse_ends(rt: &HostRuntime, public_values: &[BabyBear]) -> anyhow::Result
 fn tell_end(rt: &HostRuntime, name: &str, end: Standing<Pair<BabyBear>>) -> anyhow::Result<()> {
     match end {
         Standing::Done(Drawn { alpha, zeta, .. }) => {
-            println!(rt;
-                "{name}: alpha ({}, {}), zeta ({}, {})",
-                alpha.base.number(),
-                alpha.root.number(),
-                zeta.base.number(),
-                zeta.root.number()
-            )?;
+            println!(rt; "{name}: alpha {alpha}, zeta {zeta}")?;
         }
         _ => println!(rt; "{name}: did not finish")?,
     }

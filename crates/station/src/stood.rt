@@ -26,9 +26,9 @@ fn tell_points(rt: &HostRuntime, domain: Turn) -> anyhow::Result<()> {
         "domain: coset of {size} points modulo {}, the first",
         BabyBear::order()
     )?;
+    // By number: a domain computes its points and holds none.
     for i in 0..size.min(4) {
-        let point = domain.point(i);
-        print!(rt; " {}", point.number())?;
+        print!(rt; " {}", domain.point(i))?;
     }
     println!(rt; "")?;
     Ok(())

@@ -30,6 +30,7 @@ pub(crate) fn tell_table(rt: &HostRuntime, rows: &[u32]) -> anyhow::Result<()> {
         println!(rt; "every constraint of the station AIR is zero on every row")?;
         return Ok(());
     }
+    // By number: what fails is told by its place, and the table reads the cells.
     for row in 0..rows.len() {
         tell_row(rt, table, row)?;
     }

@@ -31,6 +31,7 @@ impl Add<Degree> for Degree {
 impl Sub<Degree> for Degree {
     type Output = Degree;
 
+    // A difference has the degree of a sum; the two are traits of std, each with its own block.
     ghost sub_gives = { λ a b r. r ≡ larger a b };
 
     fn sub(self, rhs: Degree) -> Degree {

@@ -99,6 +99,7 @@ impl<'a, F: Field> Table<'a, F> {
     fn search_rows(self) -> Option<Failure>
         ensures { Found F.ops self.entry.rows.now self.entry.ends.now result }
     {
+        // By number: the place is the answer. `find_map` over a range proves less of what it finds.
         for row in 0..self.rows.len() {
             if let Some(constraint) = self.failing_constraint(row, 0) {
                 return Some(Failure { row, constraint });
