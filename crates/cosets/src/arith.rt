@@ -21,13 +21,14 @@ use field::roots::TwoAdic;
 use field::traits::Field;
 use std::marker::PhantomData;
 
+// g, which the type says that F has.
 fn step<F: TwoAdic, E: Copy>(d: Coset<F, E>) -> F
     ensures { result ≡ step_of d }
 {
     roots::root_of_unity(d.bits).unwrap()
 }
 
-// Point i of as many as F has.
+// shift * g^i.
 fn turned_by<F: TwoAdic, E: Copy>(d: Coset<F, E>, i: usize) -> F
     ensures { result ≡ F.Field.ops.mul d.shift (pow F.Field.ops (step_of d) i) }
 {

@@ -10,6 +10,7 @@ use field::extension::Extension;
 use field::traits::{Field, PrimeField};
 
 // Points of a prime field in order, and a field above it.
+// A trait below `Domain`, so that a domain's own methods may call what is written over points.
 pub trait Points: Copy {
     type Base: PrimeField;
 

@@ -9,7 +9,6 @@ use super::{at, step};
 use crate::Coset;
 use domain::periodic::Periodic;
 use domain::powers;
-use domain::traits::{Domain, Points};
 use field::extension::Extension;
 use field::roots::TwoAdic;
 use field::traits::Field;
