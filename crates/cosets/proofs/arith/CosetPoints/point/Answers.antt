@@ -1,9 +1,8 @@
 use Rattle.std.proofs.Common.{◌^◌, ◌<◌, sym, ap, ◌∙◌, zero-add, arith}
 use Rattle.algebra.specs.Ring.{pow}
 use Rattle.algebra.proofs.CosetVanishing.{coset_at}
-use Rattle.cosets.specs.Coset.{step_of, points_of}
+use Rattle.cosets.specs.Coset.{step_of}
 use Rattle.cosets.specs.Laws.Coset.{coset_length}
-use Rattle.domain.proofs.Sampled.{get_d_past}
 use Rattle.cosets.proofs.arith.CosetPoints.point.Goals as goal
 
 pub returns : goal.returns
@@ -15,6 +14,3 @@ returns g c =
     c.turned_by.ensures
     ∙ ap (λ k. o.mul d.shift (pow o (step_of d) k)) (sym (zero-add i))
     ∙ sym (coset_at o d.shift (step_of d) o.zero 0 (2 ^ d.bits) i within)
-
-pub returns-then-i-size : goal.returns-then-i-size
-returns-then-i-size g c = c.zero.ensures ∙ sym (get_d_past (points_of c.args.self) c.args.i g.F.Field.ops.zero (omega (arith, c.if-i-size.true, c.size.ensures)))

@@ -1,8 +1,7 @@
 use Rattle.std.proofs.Common.{◌^◌, ◌<◌, sym, ap, ◌∙◌, zero-add, arith}
-use Rattle.progressions.specs.Progression.{term, points_of}
+use Rattle.progressions.specs.Progression.{term}
 use Rattle.progressions.specs.Laws.Progression.{progression_length, few_points}
 use Rattle.progressions.specs.Laws.Terms.{term_at}
-use Rattle.domain.proofs.Sampled.{get_d_past}
 use Rattle.progressions.proofs.arith.ProgressionPoints.point.Goals as goal
 
 pub overflow_cast-i : goal.overflow_cast-i
@@ -21,6 +20,3 @@ returns g c =
     c.term.ensures
     ∙ ap (term o d.start d.step) (sym (zero-add i))
     ∙ sym (term_at o d.start d.step o.zero 0 (2 ^ d.bits) i within)
-
-pub returns-then-i-size : goal.returns-then-i-size
-returns-then-i-size g c = c.zero.ensures ∙ sym (get_d_past (points_of c.args.self) c.args.i g.F.Field.ops.zero (omega (arith, c.if-i-size.true, c.size.ensures)))
