@@ -8,6 +8,7 @@ use field::extension::Extension;
 use field::traits::Field;
 
 // What is left to pass before the wanted constraint, and its value once it came.
+// It counts down by hand: the AIR calls it for each constraint, and there is nothing to go through.
 #[derive(Clone, Copy)]
 pub struct ConstraintPicker<E> {
     left: usize,

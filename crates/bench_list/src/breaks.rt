@@ -33,10 +33,8 @@ pub fn break_at(rows: &[u32], row: usize) -> Option<Break>
     if row >= rows.len() || rises(rows, row) {
         return None;
     }
-    match earlier(rows, row) {
-        Some(of) => Some(Break::Duplicate { row, of }),
-        None => Some(Break::Fall { row }),
-    }
+    let fall = Break::Fall { row };
+    Some(earlier(rows, row).map_or(fall, |of| Break::Duplicate { row, of }))
 }
 
 // How many rows are not above the one before: none exactly where the numbers rise.
@@ -49,7 +47,7 @@ pub fn count_breaks(rows: &[u32]) -> usize
     count_falls(rows)
 }
 
-// How many numbers are at most the one before them.
+// How many numbers are at most the one before them. Apart from its theorem, so that a wrong count is refused here.
 fn count_falls(rows: &[u32]) -> usize
     ensures { result ≡ breaks_below rows.now (length rows.now) }
 {

@@ -60,7 +60,7 @@ fn at<F: TwoAdic, E: Copy>(shift: F, bits: u32) -> Coset<F, E>
 fn made<F: TwoAdic, E: Copy>(shift: F, bits: u32) -> Option<Coset<F, E>>
     ensures { result ≡ made shift bits }
 {
-    if shift.equals(F::zero()) {
+    if shift == F::zero() {
         return None;
     }
     if bits > F::greatest_bits() {

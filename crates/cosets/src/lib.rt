@@ -19,7 +19,7 @@ pub struct Coset<F: TwoAdic, E> {
     ghost fits: { bits ≤ F.TwoAdic.bits },
 }
 
-// By hand: a struct with a ghost field has no derived copy.
+// By hand: a struct whose ghost field names a bound has no derived copy.
 impl<F: TwoAdic, E> Clone for Coset<F, E> {
     ghost is_clone = { λ x y. y ≡ x };
 

@@ -4,7 +4,7 @@ ghost use Rattle.transcript.specs.Takes.{takes};
 ghost use Rattle.transcript.specs.Seed.{seed};
 ghost use Rattle.transcript.specs.Schedule.{sent};
 ghost use Rattle.transcript.specs.Phases.{constraint_answer, constraint_left, ood_answer, ood_left};
-ghost use Rattle.ends.specs.Ends.{end_of, after_alpha, after_zeta};
+ghost use Rattle.ends.specs.Ends.{end_of, stopped_by, after_alpha, after_zeta};
 
 use field::traits::PrimeField;
 use sponge::Sponge;
@@ -66,6 +66,16 @@ impl<R, P> End<R, P> {
 }
 
 impl<R> End<R, Start> {
+    // What a refusal of the constraint phase makes of the end.
+    fn stopped(shape: StarkShape, failure: StarkTranscriptFailure) -> Stopped<End<R, Start>>
+        ensures { result ≡ stopped_by shape failure }
+    {
+        match failure {
+            StarkTranscriptFailure::PublicCount => Stopped::Refused(End::of(shape), failure),
+            _ => Stopped::Ended(failure),
+        }
+    }
+
     pub fn new<S: Sponge>(sponge: &mut S, shape: StarkShape) -> End<R, Start>
         ensures end { result.shape ≡ shape }
         ensures left { sponge.new ≡ takes S.steps (seed shape) sponge.old }
@@ -84,13 +94,11 @@ impl<R> End<R, Start> {
         ensures left { sponge.new ≡ constraint_left S.steps E.draws self.shape (sent F.numbered input.entry) sponge.old }
     {
         let shape = self.shape();
-        match constraint_phase::<S, F, E>(shape, sponge, input) {
-            Ok(alpha) => Ok((End::of(shape), alpha)),
-            Err(failure) => Err(match failure {
-                StarkTranscriptFailure::PublicCount => Stopped::Refused(End::of(shape), failure),
-                _ => Stopped::Ended(failure),
-            }),
-        }
+        let alpha = constraint_phase::<S, F, E>(shape, sponge, input).map_err(|failure| End::<
+            R,
+            Start,
+        >::stopped(shape, failure))?;
+        Ok((End::of(shape), alpha))
     }
 }
 

@@ -15,6 +15,7 @@ mod tests {
     use cosets::{Coset, arith as coset};
     use domain::periodic::Periodic;
     use domain::split;
+    use domain::split::Unsplit;
     use domain::traits::{Domain, Points};
     use field::extension::Extension;
     use field::traits::{Field, PrimeField};
@@ -210,30 +211,23 @@ mod tests {
         assert_eq!(rt; parts(next(big_line(2), z)), Some((1, 1)));
     }
 
-    // Whether the split was made, and the first points that the places then have.
-    fn three_places(k: usize) -> (bool, u32, u32, u32) {
-        match turn(4) {
-            Some(d) => {
-                let mut places = [d; 3];
-                let made = split::split(d, k, &mut places).is_ok();
-                let [a, b, c] = places;
-                (
-                    made,
-                    a.first_point().number(),
-                    b.first_point().number(),
-                    c.first_point().number(),
-                )
-            }
-            None => (false, 0, 0, 0),
-        }
+    // What the split answers, and the first points that the places then have.
+    fn three_places(k: usize) -> Option<(Result<(), Unsplit>, [u32; 3])> {
+        let d = turn(4)?;
+        let mut places = [d; 3];
+        let split = split::split(d, k, &mut places);
+        Some((split, places.map(|d| d.first_point().number())))
     }
 
     #[test]
     fn splits_into_a_slice(rt: HostRuntime) {
-        assert_eq!(rt; three_places(1), (true, 1, 1, 1));
-        assert_eq!(rt; three_places(2), (true, 1, 13, 1));
-        assert_eq!(rt; three_places(4), (false, 1, 1, 1));
-        assert_eq!(rt; three_places(3), (false, 1, 1, 1));
-        assert_eq!(rt; three_places(0), (false, 1, 1, 1));
+        assert_eq!(rt; three_places(1), Some((Ok(()), [1, 1, 1])));
+        assert_eq!(rt; three_places(2), Some((Ok(()), [1, 13, 1])));
+        assert_eq!(rt;
+            three_places(4),
+            Some((Err(Unsplit::FewPlaces), [1, 1, 1]))
+        );
+        assert_eq!(rt; three_places(3), Some((Err(Unsplit::Uneven), [1, 1, 1])));
+        assert_eq!(rt; three_places(0), Some((Err(Unsplit::NoPieces), [1, 1, 1])));
     }
 }

@@ -116,8 +116,7 @@ mod tests {
     use symbolic::log2_ceil;
     use walk::{StationRow, Table, WalkEnds};
 
-    // A number from 0 to 16, and nothing where there was no answer.
-    // A station, and eight bits from a byte.
+        // A station, and eight bits from a byte, written out as the row is.
     fn row(station: u32, byte: u32) -> StationRow<Seventeen> {
         let words = [
             station,

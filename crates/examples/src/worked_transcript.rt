@@ -80,6 +80,7 @@ mod tests {
         assert!(rt; !sponge.passes(6, 3));
     }
 
+    // Shapes are written out, with no default: the seed binds each of the numbers.
     fn shape(ood_pow_bits: usize) -> StarkShape {
         StarkShape {
             log_ext_degree: 3,
@@ -125,6 +126,7 @@ mod tests {
     struct Sent {
         trace: u64,
         preprocessed: Option<u64>,
+        // So many of the two values, which each field makes for itself.
         count: usize,
         random: Option<u64>,
     }

@@ -41,11 +41,7 @@ fn term<F: PrimeField, E: Copy>(d: Progression<F, E>, i: u32) -> F
 fn stepped<F: Field>(step: F) -> F
     ensures { result ≡ or_one F.Field.own step }
 {
-    if step.equals(F::zero()) {
-        F::one()
-    } else {
-        step
-    }
+    if step == F::zero() { F::one() } else { step }
 }
 
 fn at<F: PrimeField, E: Copy>(start: F, step: F, bits: u32) -> Progression<F, E>
@@ -65,7 +61,7 @@ fn at<F: PrimeField, E: Copy>(start: F, step: F, bits: u32) -> Progression<F, E>
 fn made<F: PrimeField, E: Copy>(start: F, step: F, bits: u32) -> Option<Progression<F, E>>
     ensures { result ≡ made start step bits }
 {
-    if step.equals(F::zero()) {
+    if step == F::zero() {
         return None;
     }
     if bits > most_bits::<F>() {

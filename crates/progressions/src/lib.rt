@@ -21,7 +21,7 @@ pub struct Progression<F: PrimeField, E> {
     ghost fits: { bits ≤ fitting F.PrimeField.modulus 10 },
 }
 
-// By hand: a struct with a ghost field has no derived copy.
+// By hand: a struct whose ghost field names a bound has no derived copy.
 impl<F: PrimeField, E> Clone for Progression<F, E> {
     ghost is_clone = { λ x y. y ≡ x };
 

@@ -15,6 +15,7 @@ const TRACE: u64 = 9;
 const QUOTIENT: u64 = 2306;
 
 // The station AIR on 2^6 rows: nine columns, two public values, a next row, one chunk.
+// Written out, with no default: the seed binds each of the numbers.
 fn station_shape() -> StarkShape {
     StarkShape {
         log_ext_degree: 6,

@@ -37,7 +37,7 @@ pub(crate) fn tell_table(rt: &HostRuntime, rows: &[u32]) -> anyhow::Result<()> {
     Ok(())
 }
 
-// Rows are told from 1, constraints from 0 as the AIR lists them.
+// Rows are told from 1, constraints from 0 as the AIR lists them: by number, which is all that is told.
 fn tell_row(rt: &HostRuntime, table: Table<'_, BabyBear>, row: usize) -> anyhow::Result<()> {
     for constraint in 0..11usize {
         if !table.vanishes_in_row(row, constraint) {

@@ -13,7 +13,7 @@ pub(crate) fn least_witness<S: Sponge>(sponge: &S, bits: usize, limit: u32) -> O
     (0..limit).find(|w| sponge.passes(*w, bits))
 }
 
-// The check of a witness, which takes it and lets a word be given.
+// The check of a witness, which takes it and lets a word be given. It answers whether it passed and no failure, since a prover knows.
 pub(crate) fn check_witness<S: Sponge>(sponge: &mut S, witness: u32, bits: usize) -> bool
     ensures passed { result ≡ passing S.steps sponge.old witness bits }
     ensures left { sponge.new ≡ checked S.steps sponge.old witness }

@@ -85,7 +85,7 @@ impl<'a, F: Field> Table<'a, F> {
         ensures { Decides result (ZeroIn F.ops self.entry.rows.now self.entry.ends.now row constraint) }
     {
         self.constraint_in_row(row, constraint)
-            .is_none_or(|value| value.equals(F::zero()))
+            .is_none_or(|value| value == F::zero())
     }
 
     // The first constraint, from one on, that is not zero on a row.
@@ -95,7 +95,7 @@ impl<'a, F: Field> Table<'a, F> {
         (from..11).find(|constraint| !self.vanishes_in_row(row, *constraint))
     }
 
-    // The first row, and the first constraint on it, that is not zero.
+    // The first row, and the first constraint on it, that is not zero. Over any field; the theorem below is over prime fields.
     fn search_rows(self) -> Option<Failure>
         ensures { Found F.ops self.entry.rows.now self.entry.ends.now result }
     {

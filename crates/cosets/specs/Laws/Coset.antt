@@ -118,7 +118,7 @@ module _ {F : Type 0} (two : TwoAdicMeaning F) (prime : PrimeMeaning F) (field :
     pub made_from : (d : Coset F E two prime field eqs adds subs muls negs) (x : F) (b : ℕ) → d.shift ≡ x → d.bits ≡ b → Some d ≡ made x b
     made_from d x b p q = sym (made_own d) ∙ ap₂ made p q
 
-    made_present : (x : F) (b : ℕ) → x ≢ 𝟘 → b ≤ most → ◌≡◌ {A = Option (Coset F E two prime field eqs adds subs muls negs)} (made x b) None → ⊥
+    pub made_present : (x : F) (b : ℕ) → x ≢ 𝟘 → b ≤ most → ◌≡◌ {A = Option (Coset F E two prime field eqs adds subs muls negs)} (made x b) None → ⊥
     made_present x b h w f =
         let e : Coset F E two prime field eqs adds subs muls negs = record { shift = x; bits = b; above = record {}; shifted = h; fits = w } in
         let present : Option (Coset F E two prime field eqs adds subs muls negs) → Type 0 = λ r. elim r as (λ _. Type 0) [ None ↦ ⊥ | Some d ↦ Unit {0} ] in

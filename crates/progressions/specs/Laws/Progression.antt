@@ -103,7 +103,7 @@ module _ {F : Type 0} (prime : PrimeMeaning F) (field : FieldMeaning F) (named :
         by_tests (no s) (no w) = absurd (w d.fits)
         by_tests (no s) (yes w) = ap Some (same_progression s d.stepped w d.fits)
 
-    made_present : (a x : F) (b : ℕ) → x ≢ 𝟘 → b ≤ fitting modulus 10 → ◌≡◌ {A = Option (Progression F E prime field eqs adds subs muls negs)} (made a x b) None → ⊥
+    pub made_present : (a x : F) (b : ℕ) → x ≢ 𝟘 → b ≤ fitting modulus 10 → ◌≡◌ {A = Option (Progression F E prime field eqs adds subs muls negs)} (made a x b) None → ⊥
     made_present a x b h w f =
         let e : Progression F E prime field eqs adds subs muls negs = record { start = a; step = x; bits = b; above = record {}; stepped = h; fits = w } in
         let present : Option (Progression F E prime field eqs adds subs muls negs) → Type 0 = λ r. elim r as (λ _. Type 0) [ None ↦ ⊥ | Some d ↦ Unit {0} ] in
