@@ -23,7 +23,7 @@ pub fn station_row<F: Field>(station: u32, next: u32) -> StationRow<F>
 {
     let n = next.saturating_sub(station).saturating_sub(1) % 256;
     // Written out: an array's `map` over the words gets no proof for a function whose result alone names the type, and a loop that fills the array
-// is no plainer.
+    // is no plainer.
     StationRow {
         cells: [
             F::from_u32(station),

@@ -223,10 +223,7 @@ mod tests {
     fn splits_into_a_slice(rt: HostRuntime) {
         assert_eq!(rt; three_places(1), Some((Ok(()), [1, 1, 1])));
         assert_eq!(rt; three_places(2), Some((Ok(()), [1, 13, 1])));
-        assert_eq!(rt;
-            three_places(4),
-            Some((Err(Unsplit::FewPlaces), [1, 1, 1]))
-        );
+        assert_eq!(rt; three_places(4), Some((Err(Unsplit::FewPlaces), [1, 1, 1])));
         assert_eq!(rt; three_places(3), Some((Err(Unsplit::Uneven), [1, 1, 1])));
         assert_eq!(rt; three_places(0), Some((Err(Unsplit::NoPieces), [1, 1, 1])));
     }

@@ -116,7 +116,7 @@ mod tests {
     use symbolic::log2_ceil;
     use walk::{StationRow, Table, WalkEnds};
 
-        // A station, and eight bits from a byte, written out as the row is.
+    // A station, and eight bits from a byte, written out as the row is.
     fn row(station: u32, byte: u32) -> StationRow<Seventeen> {
         let words = [
             station,
