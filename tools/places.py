@@ -4,7 +4,7 @@
     tools/places.py [POINT..]
 
 Each point prints its candidates, a line each, and their number. A candidate is a place to look at:
-docs/DESIGN-PASS.md says of each whether it is one.
+docs/DESIGN-PASS.md says which were places, and what stays.
 """
 import re, sys
 from itertools import combinations
