@@ -1,35 +1,30 @@
 -- What the builders hold once an AIR's constraints were asserted, and that this is fixed by what is read. Assumes nothing.
-use Rattle.std.proofs.Common.{◌≡◌, ℕ, zero, suc, Bool, true, List, [], ◌∷◌, Some, None, refl, ap, ◌∙◌}
+use Rattle.std.proofs.Common.{◌≡◌, ℕ, zero, suc, Bool, true, List, [], ◌∷◌, Some, None, refl, ap}
 use Rattle.std.proofs.lemmas.Bool.{and_parts}
 use Rattle.algebra.specs.Ring.{RingOps}
-use Rattle.expression.specs.Expression.{Leaf, Expression, values, meaning, folded, asserted, within, all_within}
-use Rattle.expression.proofs.Meanings.{meaning_kept, same_meaning}
+use Rattle.expression.specs.declared.Leaf.{Leaf}
+use Rattle.expression.specs.Expression.{Expression, values, meaning, folded, asserted, within, all_within}
+use Rattle.expression.proofs.Meanings.{same_meaning}
 use Rattle.air.specs.Folder.{horner}
 use Rattle.air.specs.Picker.{constraint_at, picked}
-use Rattle.air.specs.Values.{of_value, value_operations}
 
 module _ {E : Type 0} (ops : RingOps E) (read : Leaf → E) where
-  -- a value with operators is the value
-  value_meaning : (x : Expression) → (meaning (value_operations ops) (λ l. of_value (read l)) x).value ≡ meaning (values ops) read x
-  value_meaning = meaning_kept (value_operations ops) (values ops) (λ v. v.value) (λ x y. refl) (λ x y. refl) (λ x y. refl) (λ l. of_value (read l))
-
   pub folder_holds : (alpha acc : E) (cs : List Expression)
-      → (asserted (horner ops) (value_operations ops) (λ l. of_value (read l)) (record { alpha = alpha; accumulator = acc }) cs).accumulator ≡ folded (values ops) read alpha acc cs
+      → (asserted (horner ops) (values ops) read (record { alpha = alpha; accumulator = acc }) cs).accumulator ≡ folded (values ops) read alpha acc cs
   folder_holds alpha acc [] = refl
   folder_holds alpha acc (c ∷ cs) =
-      folder_holds alpha (ops.add (ops.mul acc alpha) (meaning (value_operations ops) (λ l. of_value (read l)) c).value) cs
-      ∙ ap (λ v. folded (values ops) read alpha (ops.add (ops.mul acc alpha) v) cs) (value_meaning c)
+      folder_holds alpha (ops.add (ops.mul acc alpha) (meaning (values ops) read c)) cs
 
   -- what was found stays
   picker_keeps : (left : ℕ) (y : E) (cs : List Expression)
-      → (asserted picked (value_operations ops) (λ l. of_value (read l)) (record { left = left; found = Some y }) cs).found ≡ Some y
+      → (asserted picked (values ops) read (record { left = left; found = Some y }) cs).found ≡ Some y
   picker_keeps left y [] = refl
   picker_keeps left y (c ∷ cs) = picker_keeps left y cs
 
   pub picker_holds : (i : ℕ) (cs : List Expression)
-      → (asserted picked (value_operations ops) (λ l. of_value (read l)) (record { left = i; found = None }) cs).found ≡ constraint_at ops read cs i
+      → (asserted picked (values ops) read (record { left = i; found = None }) cs).found ≡ constraint_at ops read cs i
   picker_holds i [] = refl
-  picker_holds zero (c ∷ cs) = picker_keeps 0 (meaning (value_operations ops) (λ l. of_value (read l)) c).value cs ∙ ap Some (value_meaning c)
+  picker_holds zero (c ∷ cs) = picker_keeps 0 (meaning (values ops) read c) cs
   picker_holds (suc i) (c ∷ cs) = picker_holds i cs
 
 -- two ways to read agree on the leaves that pass

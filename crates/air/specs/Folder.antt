@@ -1,18 +1,18 @@
 -- The fold of constraints over opened rows. Assumes nothing.
 use Rattle.std.specs.Prelude.{◌≡◌, true, cond, List, Ok, Err, Result}
 use Rattle.algebra.specs.Ring.{RingOps}
-use Rattle.expression.specs.Expression.{Leaf, Expression, values, folded}
+use Rattle.expression.specs.declared.Leaf.{Leaf}
+use Rattle.expression.specs.Expression.{Expression, values, folded}
 use Rattle.air.specs.Opened.{covers, opened}
 use Rattle.air.specs.Sound.{declares}
 use Rattle.air.specs.declared.builder.Layout.{Layout}
 use Rattle.air.specs.declared.folder.VerifierConstraintFolder.{VerifierConstraintFolder}
 use Rattle.air.specs.declared.opened.AirInputsTooShort.{AirInputsTooShort}
 use Rattle.air.specs.declared.opened.OpenedRows.{OpenedRows}
-use Rattle.air.specs.declared.value.Value.{Value}
 
 -- a constraint's value taken into the fold: one step of Horner's rule
-abbrev pub horner : {E : Type 0} → RingOps E → VerifierConstraintFolder E → Value E → VerifierConstraintFolder E
-horner ops f x = record { alpha = f.alpha; accumulator = ops.add (ops.mul f.accumulator f.alpha) x.value }
+abbrev pub horner : {E : Type 0} → RingOps E → VerifierConstraintFolder E → E → VerifierConstraintFolder E
+horner ops f x = record { alpha = f.alpha; accumulator = ops.add (ops.mul f.accumulator f.alpha) x }
 
 -- x, or a refusal where a row or a list is shorter than declared
 abbrev pub if_covered : {F E X : Type 0} → Layout → OpenedRows F E → X → Result X AirInputsTooShort

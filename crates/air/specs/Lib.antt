@@ -2,4 +2,3 @@ pub mod Folder
 pub mod Opened
 pub mod Picker
 pub mod Sound
-pub mod Values

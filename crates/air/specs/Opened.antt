@@ -2,7 +2,8 @@
 use Rattle.std.specs.Prelude.{ℕ, Bool, true, ◌&&◌, List, [], map, length, Some, None, Option, nat_le, slice_index_or}
 use Rattle.std.specs.Borrow.{Bor}
 use Rattle.algebra.specs.Ring.{RingOps, nat}
-use Rattle.expression.specs.Expression.{Leaf, main, main_next, preprocessed, preprocessed_next, public, periodic, is_first, is_last, is_transition, number}
+use Rattle.expression.specs.declared.Leaf.{Leaf}
+use Rattle.expression.specs.declared.Leaf.TheVariants.{Main, MainNext, Preprocessed, PreprocessedNext, Public, Periodic, IsFirst, IsLast, IsTransition, Number}
 use Rattle.air.specs.declared.builder.Layout.{Layout}
 use Rattle.air.specs.declared.opened.OpenedRows.{OpenedRows}
 
@@ -13,16 +14,16 @@ cells (Some row) = row.now
 
 -- what a leaf is read as, where an element x of the base field is `embedded x`: zero past the end of a row or a list
 abbrev pub opened : {F E : Type 0} → RingOps E → (F → E) → OpenedRows F E → Leaf → E
-opened ops embedded rows (main i) = slice_index_or rows.main.now i ops.zero
-opened ops embedded rows (main_next i) = slice_index_or (cells rows.main_next) i ops.zero
-opened ops embedded rows (preprocessed i) = slice_index_or rows.preprocessed.now i ops.zero
-opened ops embedded rows (preprocessed_next i) = slice_index_or (cells rows.preprocessed_next) i ops.zero
-opened ops embedded rows (public i) = slice_index_or (map embedded rows.public_values.now) i ops.zero
-opened ops embedded rows (periodic i) = slice_index_or rows.periodic_values.now i ops.zero
-opened ops embedded rows is_first = rows.is_first_row
-opened ops embedded rows is_last = rows.is_last_row
-opened ops embedded rows is_transition = rows.is_transition
-opened ops embedded rows (number n) = nat ops n
+opened ops embedded rows (Main i) = slice_index_or rows.main.now i ops.zero
+opened ops embedded rows (MainNext i) = slice_index_or (cells rows.main_next) i ops.zero
+opened ops embedded rows (Preprocessed i) = slice_index_or rows.preprocessed.now i ops.zero
+opened ops embedded rows (PreprocessedNext i) = slice_index_or (cells rows.preprocessed_next) i ops.zero
+opened ops embedded rows (Public i) = slice_index_or (map embedded rows.public_values.now) i ops.zero
+opened ops embedded rows (Periodic i) = slice_index_or rows.periodic_values.now i ops.zero
+opened ops embedded rows IsFirst = rows.is_first_row
+opened ops embedded rows IsLast = rows.is_last_row
+opened ops embedded rows IsTransition = rows.is_transition
+opened ops embedded rows (Number n) = nat ops n
 
 -- whether a next row, where there is one, is as long as declared
 abbrev pub next_covers : {E : Type 0} → ℕ → Option (Bor (List E)) → Bool

@@ -1,14 +1,14 @@
 -- The value of one constraint over opened rows. Assumes nothing.
 use Rattle.std.specs.Prelude.{ℕ, zero, suc, List, [], ◌∷◌, Some, None, Option, Result}
 use Rattle.algebra.specs.Ring.{RingOps}
-use Rattle.expression.specs.Expression.{Leaf, Expression, values, meaning}
+use Rattle.expression.specs.declared.Leaf.{Leaf}
+use Rattle.expression.specs.Expression.{Expression, values, meaning}
 use Rattle.air.specs.Folder.{if_covered}
 use Rattle.air.specs.Opened.{opened}
 use Rattle.air.specs.declared.builder.Layout.{Layout}
 use Rattle.air.specs.declared.opened.AirInputsTooShort.{AirInputsTooShort}
 use Rattle.air.specs.declared.opened.OpenedRows.{OpenedRows}
 use Rattle.air.specs.declared.picker.ConstraintPicker.{ConstraintPicker}
-use Rattle.air.specs.declared.value.Value.{Value}
 
 -- the value of the i-th constraint, and nothing past the last
 abbrev pub constraint_at : {E : Type 0} → RingOps E → (Leaf → E) → List Expression → ℕ → Option E
@@ -25,5 +25,5 @@ pick left (Some y) x = record { left = left; found = Some y }
 pick zero None x = record { left = 0; found = Some x }
 pick (suc left) None x = record { left = left; found = None }
 
-abbrev pub picked : {E : Type 0} → ConstraintPicker E → Value E → ConstraintPicker E
-picked p x = pick p.left p.found x.value
+abbrev pub picked : {E : Type 0} → ConstraintPicker E → E → ConstraintPicker E
+picked p x = pick p.left p.found x

@@ -1,14 +1,16 @@
 // An AIR, and what a builder gives it: rows to read from, and a place to assert its constraints.
 ghost use Rattle.std.specs.Prelude.{◌≡◌, ◌-◌, List, [], slice_index_or};
-ghost use Rattle.expression.specs.Expression.{Leaf, Expression, Operations, asserted, main, main_next, preprocessed, preprocessed_next, public, periodic, is_first, is_last, is_transition, number, booleans};
+ghost use Rattle.expression.specs.declared.Leaf.{Leaf};
+ghost use Rattle.expression.specs.Expression.{Expression, Operations, asserted, booleans, values};
 ghost use Rattle.air.specs.Sound.{Sound};
 ghost use Rattle.air.specs.declared.builder.Layout.{Layout};
 
+use expression::Leaf;
 use field::traits::Field;
-use std::ops::{Add, Mul, Sub};
+use std::ops::{Add, Mul, Range, Sub};
 
-// What an AIR reads, at most; the number of its boundary cells; and a degree, where it declares one.
-#[derive(Clone, Copy)]
+// What an AIR reads, at most; the number of its boundary cells; and a degree, where it declares one. The default reads nothing.
+#[derive(Clone, Copy, Default)]
 pub struct Layout {
     pub width: usize,
     pub preprocessed_width: usize,
@@ -41,41 +43,91 @@ pub trait Algebra: Copy
     ghost any_product: { (a b : Self) → Self.Mul.can_mul a b };
 }
 
-// What each leaf of an expression is read as.
+// The elements of a field.
+impl<E: Field> Algebra for E {
+    ghost operations = { values E.ops };
+
+    ghost sums = { E.Field.sums };
+
+    ghost differences = { E.Field.differences };
+
+    ghost products = { E.Field.products };
+
+    ghost any_sum = { E.Field.any_sum };
+
+    ghost any_difference = { E.Field.any_difference };
+
+    ghost any_product = { E.Field.any_product };
+}
+
+// What each leaf of an expression is read as. The named readers read by the leaf, and no implementation has others.
 pub trait Rows {
     type Expr: Algebra;
 
     ghost reads: { Self → Leaf → Self.Expr };
 
-    fn main(&self, column: usize) -> Self::Expr
-        ensures { result ≡ reads self.now (main column) };
+    fn read(&self, leaf: Leaf) -> Self::Expr
+        ensures { result ≡ reads self.now leaf };
 
-    fn main_next(&self, column: usize) -> Self::Expr
-        ensures { result ≡ reads self.now (main_next column) };
+    final fn main(&self, column: usize) -> Self::Expr
+        ensures { result ≡ reads self.now (Leaf.Main column) }
+    {
+        self.read(Leaf::Main(column))
+    }
 
-    fn preprocessed(&self, column: usize) -> Self::Expr
-        ensures { result ≡ reads self.now (preprocessed column) };
+    final fn main_next(&self, column: usize) -> Self::Expr
+        ensures { result ≡ reads self.now (Leaf.MainNext column) }
+    {
+        self.read(Leaf::MainNext(column))
+    }
 
-    fn preprocessed_next(&self, column: usize) -> Self::Expr
-        ensures { result ≡ reads self.now (preprocessed_next column) };
+    final fn preprocessed(&self, column: usize) -> Self::Expr
+        ensures { result ≡ reads self.now (Leaf.Preprocessed column) }
+    {
+        self.read(Leaf::Preprocessed(column))
+    }
 
-    fn public_value(&self, index: usize) -> Self::Expr
-        ensures { result ≡ reads self.now (public index) };
+    final fn preprocessed_next(&self, column: usize) -> Self::Expr
+        ensures { result ≡ reads self.now (Leaf.PreprocessedNext column) }
+    {
+        self.read(Leaf::PreprocessedNext(column))
+    }
 
-    fn periodic_value(&self, column: usize) -> Self::Expr
-        ensures { result ≡ reads self.now (periodic column) };
+    final fn public_value(&self, index: usize) -> Self::Expr
+        ensures { result ≡ reads self.now (Leaf.Public index) }
+    {
+        self.read(Leaf::Public(index))
+    }
 
-    fn is_first_row(&self) -> Self::Expr
-        ensures { result ≡ reads self.now is_first };
+    final fn periodic_value(&self, column: usize) -> Self::Expr
+        ensures { result ≡ reads self.now (Leaf.Periodic column) }
+    {
+        self.read(Leaf::Periodic(column))
+    }
 
-    fn is_last_row(&self) -> Self::Expr
-        ensures { result ≡ reads self.now is_last };
+    final fn is_first_row(&self) -> Self::Expr
+        ensures { result ≡ reads self.now Leaf.IsFirst }
+    {
+        self.read(Leaf::IsFirst)
+    }
 
-    fn is_transition(&self) -> Self::Expr
-        ensures { result ≡ reads self.now is_transition };
+    final fn is_last_row(&self) -> Self::Expr
+        ensures { result ≡ reads self.now Leaf.IsLast }
+    {
+        self.read(Leaf::IsLast)
+    }
 
-    fn number(&self, n: u32) -> Self::Expr
-        ensures { result ≡ reads self.now (number n) };
+    final fn is_transition(&self) -> Self::Expr
+        ensures { result ≡ reads self.now Leaf.IsTransition }
+    {
+        self.read(Leaf::IsTransition)
+    }
+
+    final fn number(&self, n: u32) -> Self::Expr
+        ensures { result ≡ reads self.now (Leaf.Number n) }
+    {
+        self.read(Leaf::Number(n))
+    }
 }
 
 // What takes an AIR's constraints, one after another.
@@ -108,16 +160,15 @@ pub trait Air<F: Field> {
         ensures { builder.new ≡ asserted B.step R.Expr.Algebra.operations (R.reads rows.now) builder.old (constraints self.now) };
 }
 
-// Asserts of each column from one up to another that it is 0 or 1.
+// Asserts of each of the columns that it is 0 or 1.
 pub fn assert_bools<R: Rows, B: AirBuilder<R::Expr>>(
     rows: &R,
     builder: &mut B,
-    from: usize,
-    to: usize,
+    columns: Range<usize>,
 )
-    ensures { builder.new ≡ asserted B.step R.Expr.Algebra.operations (R.reads rows.now) builder.old (booleans from (to - from)) }
+    ensures { builder.new ≡ asserted B.step R.Expr.Algebra.operations (R.reads rows.now) builder.old (booleans columns.start (columns.end - columns.start)) }
 {
-    for column in from..to {
+    for column in columns {
         let bit = rows.main(column);
         builder.assert_zero(bit * (bit - rows.number(1)));
     }

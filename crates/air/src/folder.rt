@@ -3,8 +3,7 @@ ghost use Rattle.std.specs.Prelude.{◌≡◌};
 ghost use Rattle.air.specs.Folder.{DeclaredSuffices, fold_or_refusal, horner};
 
 use crate::builder::{Air, AirBuilder};
-use crate::opened::{AirInputsTooShort, OpenedRows};
-use crate::value::Value;
+use crate::opened::{AirInputsTooShort, OpenedRows, assert_over};
 use field::extension::Extension;
 use field::traits::Field;
 
@@ -15,11 +14,11 @@ pub struct VerifierConstraintFolder<E> {
     accumulator: E,
 }
 
-impl<E: Field> AirBuilder<Value<E>> for VerifierConstraintFolder<E> {
+impl<E: Field> AirBuilder<E> for VerifierConstraintFolder<E> {
     ghost step = { horner E.Field.ops };
 
-    fn assert_zero(&mut self, x: Value<E>) {
-        self.accumulator = self.accumulator.mul(self.alpha).add(x.value);
+    fn assert_zero(&mut self, x: E) {
+        self.accumulator = self.accumulator * self.alpha + x;
     }
 }
 
@@ -38,13 +37,9 @@ pub fn fold_constraints<F: Field, E: Extension<F>, A: Air<F>>(
     ensures declared { DeclaredSuffices E.Field.ops (A.declared air.now) (A.constraints air.now) }
 {
     declared_suffices::<F, E, A>(air);
-    if !rows.covers(&air.layout()) {
-        return Err(AirInputsTooShort);
-    }
-    let mut folder = VerifierConstraintFolder {
+    let folder = VerifierConstraintFolder {
         alpha,
         accumulator: E::zero(),
     };
-    air.eval(rows, &mut folder);
-    Ok(folder.accumulator)
+    Ok(assert_over(air, rows, folder)?.accumulator)
 }

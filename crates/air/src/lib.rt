@@ -5,4 +5,3 @@ pub mod builder;
 pub mod folder;
 pub mod opened;
 pub mod picker;
-pub mod value;

@@ -1,10 +1,11 @@
 // What was opened at a point, as an AIR reads it.
 ghost use Rattle.std.specs.Prelude.{◌≡◌, map, slice_index_or};
+ghost use Rattle.expression.specs.Expression.{asserted, values};
+ghost use Rattle.air.specs.Folder.{if_covered};
 ghost use Rattle.air.specs.Opened.{cells, covers, next_covers, opened};
-ghost use Rattle.air.specs.Values.{of_value};
 
-use crate::builder::{Layout, Rows};
-use crate::value::Value;
+use crate::builder::{Air, AirBuilder, Layout, Rows};
+use expression::Leaf;
 use field::extension::Extension;
 use field::traits::Field;
 
@@ -26,46 +27,25 @@ pub struct OpenedRows<'a, F, E> {
 #[derive(Clone, Copy)]
 pub struct AirInputsTooShort;
 
-// The cell of a row, or zero past its end.
-fn cell<E: Field>(row: &[E], column: usize) -> E
-    ensures { result ≡ slice_index_or row.now column E.ops.zero }
+// An element of a row or a list, in the larger field; zero past the end.
+fn cell<F: Field, E: Extension<F>>(row: &[F], column: usize) -> E
+    ensures { result ≡ slice_index_or (map E.embedded row.now) column E.Field.ops.zero }
 {
-    if column < row.len() {
-        row[column]
-    } else {
-        E::zero()
-    }
-}
-
-// The same of a list over the base field.
-fn embedded_cell<F: Field, E: Extension<F>>(list: &[F], index: usize) -> E
-    ensures { result ≡ slice_index_or (map E.embedded list.now) index E.Field.ops.zero }
-{
-    if index < list.len() {
-        E::embed(list[index])
-    } else {
-        E::zero()
-    }
+    row.get(column).map_or(E::zero(), |x| E::embed(*x))
 }
 
 // The same of a row that may be absent.
 fn cell_if_any<E: Field>(row: Option<&[E]>, column: usize) -> E
     ensures { result ≡ slice_index_or (cells row.entry) column E.ops.zero }
 {
-    match row {
-        Some(row) => cell(row, column),
-        None => E::zero(),
-    }
+    row.map_or(E::zero(), |row| cell(row, column))
 }
 
 // Whether a row, where there is one, has n cells.
 fn next_covers<E>(row: Option<&[E]>, n: usize) -> bool
     ensures { result ≡ next_covers n row.entry }
 {
-    match row {
-        Some(row) => n <= row.len(),
-        None => true,
-    }
+    row.is_none_or(|row| n <= row.len())
 }
 
 impl<F, E> OpenedRows<'_, F, E> {
@@ -83,67 +63,37 @@ impl<F, E> OpenedRows<'_, F, E> {
 }
 
 impl<F: Field, E: Extension<F>> Rows for OpenedRows<'_, F, E> {
-    type Expr = Value<E>;
+    type Expr = E;
 
-    ghost reads = { λ rows l. of_value (opened E.Field.ops E.Extension.embedded rows l) };
+    ghost reads = { opened E.Field.ops E.Extension.embedded };
 
-    fn main(&self, column: usize) -> Value<E> {
-        Value {
-            value: cell(self.main, column),
+    fn read(&self, leaf: Leaf) -> E {
+        match leaf {
+            Leaf::Main(column) => cell(self.main, column),
+            Leaf::MainNext(column) => cell_if_any(self.main_next, column),
+            Leaf::Preprocessed(column) => cell(self.preprocessed, column),
+            Leaf::PreprocessedNext(column) => cell_if_any(self.preprocessed_next, column),
+            Leaf::Public(index) => cell(self.public_values, index),
+            Leaf::Periodic(column) => cell(self.periodic_values, column),
+            Leaf::IsFirst => self.is_first_row,
+            Leaf::IsLast => self.is_last_row,
+            Leaf::IsTransition => self.is_transition,
+            Leaf::Number(n) => E::from_u32(n),
         }
     }
+}
 
-    fn main_next(&self, column: usize) -> Value<E> {
-        Value {
-            value: cell_if_any(self.main_next, column),
-        }
+// What the builder becomes when the AIR's constraints over the rows are asserted to it, each in turn.
+pub(crate) fn assert_over<F: Field, E: Extension<F>, A: Air<F>, B: AirBuilder<E> + Drop>(
+    air: &A,
+    rows: &OpenedRows<F, E>,
+    mut builder: B,
+) -> Result<B, AirInputsTooShort>
+    ensures { result ≡ if_covered (A.declared air.now) rows.now (asserted B.step (values E.Field.ops) (opened E.Field.ops E.embedded rows.now) builder (A.constraints air.now)) }
+{
+    if !rows.covers(&air.layout()) {
+        return Err(AirInputsTooShort);
     }
-
-    fn preprocessed(&self, column: usize) -> Value<E> {
-        Value {
-            value: cell(self.preprocessed, column),
-        }
-    }
-
-    fn preprocessed_next(&self, column: usize) -> Value<E> {
-        Value {
-            value: cell_if_any(self.preprocessed_next, column),
-        }
-    }
-
-    fn public_value(&self, index: usize) -> Value<E> {
-        Value {
-            value: embedded_cell(self.public_values, index),
-        }
-    }
-
-    fn periodic_value(&self, column: usize) -> Value<E> {
-        Value {
-            value: cell(self.periodic_values, column),
-        }
-    }
-
-    fn is_first_row(&self) -> Value<E> {
-        Value {
-            value: self.is_first_row,
-        }
-    }
-
-    fn is_last_row(&self) -> Value<E> {
-        Value {
-            value: self.is_last_row,
-        }
-    }
-
-    fn is_transition(&self) -> Value<E> {
-        Value {
-            value: self.is_transition,
-        }
-    }
-
-    fn number(&self, n: u32) -> Value<E> {
-        Value {
-            value: E::from_u32(n),
-        }
-    }
+    air.eval(rows, &mut builder);
+    Ok(builder)
 }

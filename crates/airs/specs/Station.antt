@@ -1,6 +1,7 @@
 -- The station AIR: column 0 is the station, and columns 1 to 8 are the bits of the step to the next one, less 1. Assumes nothing.
 use Rattle.std.specs.Prelude.{ℕ, true, false, List, [], ◌∷◌, ◌++◌, None}
-use Rattle.expression.specs.Expression.{main, main_next, public, is_first, is_last, is_transition, number, Expression, leaf, sum, difference, product, booleans}
+use Rattle.expression.specs.declared.Leaf.TheVariants.{Main, MainNext, Public, IsFirst, IsLast, IsTransition, Number}
+use Rattle.expression.specs.Expression.{Expression, leaf, sum, difference, product, booleans}
 use Rattle.air.specs.declared.builder.Layout.{Layout}
 
 abbrev pub station_layout : Layout
@@ -16,7 +17,7 @@ station_layout = record {
 }
 
 abbrev scaled : ℕ → ℕ → Expression
-scaled n column = product (leaf (number n)) (leaf (main column))
+scaled n column = product (leaf (Number n)) (leaf (Main column))
 
 -- the number that the bits in the columns 1 to 8 write, the lowest first
 abbrev pub byte : Expression
@@ -24,12 +25,12 @@ byte =
     sum (sum (sum (sum (sum (sum (sum (scaled 1 1) (scaled 2 2)) (scaled 4 3)) (scaled 8 4)) (scaled 16 5)) (scaled 32 6)) (scaled 64 7)) (scaled 128 8)
 
 abbrev pub moved : Expression
-moved = difference (difference (difference (leaf (main_next 0)) (leaf (main 0))) (leaf (number 1))) byte
+moved = difference (difference (difference (leaf (MainNext 0)) (leaf (Main 0))) (leaf (Number 1))) byte
 
 abbrev pub station : List Expression
 station =
     booleans 1 8
-    ++ product (leaf is_transition) moved
-    ∷ product (leaf is_first) (difference (leaf (main 0)) (leaf (public 0)))
-    ∷ product (leaf is_last) (difference (leaf (main 0)) (leaf (public 1)))
+    ++ product (leaf IsTransition) moved
+    ∷ product (leaf IsFirst) (difference (leaf (Main 0)) (leaf (Public 0)))
+    ∷ product (leaf IsLast) (difference (leaf (Main 0)) (leaf (Public 1)))
     ∷ []

@@ -1,6 +1,7 @@
 -- The weight AIR: s = r w + k, with r and s in the columns 0 and 1, w preprocessed and k periodic. Assumes nothing.
 use Rattle.std.specs.Prelude.{false, List, [], ◌∷◌, None}
-use Rattle.expression.specs.Expression.{main, preprocessed, periodic, Expression, leaf, difference, product}
+use Rattle.expression.specs.declared.Leaf.TheVariants.{Main, Preprocessed, Periodic}
+use Rattle.expression.specs.Expression.{Expression, leaf, difference, product}
 use Rattle.air.specs.declared.builder.Layout.{Layout}
 
 abbrev pub weight_layout : Layout
@@ -17,5 +18,5 @@ weight_layout = record {
 
 abbrev pub weight : List Expression
 weight =
-    difference (difference (leaf (main 1)) (product (leaf (main 0)) (leaf (preprocessed 0)))) (leaf (periodic 0))
+    difference (difference (leaf (Main 1)) (product (leaf (Main 0)) (leaf (Preprocessed 0)))) (leaf (Periodic 0))
     ∷ []

@@ -11,14 +11,11 @@ use field::traits::Field;
 fn byte<R: Rows>(rows: &R) -> R::Expr
     ensures { result ≡ meaning R.Expr.Algebra.operations (R.reads rows.now) the_byte }
 {
-    rows.number(1) * rows.main(1)
-        + rows.number(2) * rows.main(2)
-        + rows.number(4) * rows.main(3)
-        + rows.number(8) * rows.main(4)
-        + rows.number(16) * rows.main(5)
-        + rows.number(32) * rows.main(6)
-        + rows.number(64) * rows.main(7)
-        + rows.number(128) * rows.main(8)
+    let mut sum = rows.number(1) * rows.main(1);
+    for bit in 1..8usize {
+        sum = sum + rows.number(1 << bit) * rows.main(bit + 1);
+    }
+    sum
 }
 
 #[derive(Clone, Copy)]
@@ -36,13 +33,9 @@ impl<F: Field> Air<F> for StationAir {
     fn layout(&self) -> Layout {
         Layout {
             width: 9,
-            preprocessed_width: 0,
             num_public_values: 2,
-            num_periodic_columns: 0,
             main_next: true,
-            preprocessed_next: false,
-            boundary_io: 0,
-            max_constraint_degree: None,
+            ..Layout::default()
         }
     }
 
@@ -51,7 +44,7 @@ impl<F: Field> Air<F> for StationAir {
     }
 
     fn eval<R: Rows, B: AirBuilder<R::Expr>>(&self, rows: &R, builder: &mut B) {
-        assert_bools(rows, builder, 1, 9);
+        assert_bools(rows, builder, 1..9);
         let station = rows.main(0);
         let step = rows.main_next(0) - station - rows.number(1);
         builder.assert_zero(rows.is_transition() * (step - byte(rows)));

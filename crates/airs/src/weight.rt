@@ -33,12 +33,8 @@ impl<F: Field> Air<F> for WeightAir<F> {
         Layout {
             width: 2,
             preprocessed_width: 1,
-            num_public_values: 0,
             num_periodic_columns: 1,
-            main_next: false,
-            preprocessed_next: false,
-            boundary_io: 0,
-            max_constraint_degree: None,
+            ..Layout::default()
         }
     }
 

@@ -1,5 +1,5 @@
 -- Lagrange's sum takes the given values, is a polynomial with a coefficient for each point, and is the only one. Assumes nothing.
-use Rattle.std.proofs.Common.{◌≡◌, ℕ, zero, suc, ◌+◌, ◌≤◌, ◌≢◌, List, [], ◌∷◌, ◌++◌, length, Option, sym, refl, ap, ◌∙◌, ap₂, arith, length-append}
+use Rattle.std.proofs.Common.{◌≡◌, ℕ, suc, ◌+◌, ◌≤◌, ◌≢◌, List, [], ◌∷◌, ◌++◌, length, Option, sym, refl, ap, ◌∙◌, ap₂, arith, length-append}
 use Rattle.algebra.specs.Ring.{RingOps, sub}
 use Rattle.algebra.specs.Field.{FieldLaws, DivisionLaws, total}
 use Rattle.algebra.specs.Polynomial.{Each, Distinct, eval, scaled, sum, product}

@@ -22,6 +22,8 @@ pub fn station_row<F: Field>(station: u32, next: u32) -> StationRow<F>
     ensures { result.cells ≡ nat F.ops station ∷ map (λ w. nat F.ops (gap station next / w % 2)) weights }
 {
     let n = next.saturating_sub(station).saturating_sub(1) % 256;
+    // Written out: an array's `map` over the words gets no proof for a function whose result alone names the type, and a loop that fills the array
+    // is no plainer.
     StationRow {
         cells: [
             F::from_u32(station),

@@ -1,20 +1,18 @@
 -- A text as bytes: its lines, and what a line of a bench list stands for. Assumes nothing.
-use Rattle.std.specs.Prelude.{ℕ, ◌+◌, ◌-◌, ◌*◌, ◌^◌, Bool, true, false, cond, List, [], ◌∷◌, length, take, Some, None, Option, ◌==◌, nat_le, nat_lt, slice_index}
-use Rattle.bench_list.specs.declared.lines.Line.{Line}
-use Rattle.bench_list.specs.declared.lines.Line.TheVariants.{Skipped, Row, Unfit}
+use Rattle.std.specs.Prelude.{ℕ, ◌+◌, ◌-◌, ◌*◌, ◌^◌, Bool, true, false, cond, not, List, [], ◌∷◌, length, take, Some, None, Ok, Err, Option, Result, ◌==◌, nat_le, nat_lt, slice_index}
+use Rattle.std.specs.List.{list_all, slice_split}
+use Rattle.bench_list.specs.declared.lines.NotANumber.{NotANumber}
+
+abbrev pub newline : ℕ → Bool
+newline b = b == 10
 
 -- a byte that is no newline
 abbrev pub inside : ℕ → Bool
-inside b = cond (b == 10) false true
-
-abbrev pub onto : ℕ → List (List ℕ) → List (List ℕ)
-onto b [] = (b ∷ []) ∷ []
-onto b (l ∷ ls) = (b ∷ l) ∷ ls
+inside b = not (newline b)
 
 -- the lines of a text, which newlines part: one more than there are newlines
 abbrev pub lines_of : List ℕ → List (List ℕ)
-lines_of [] = [] ∷ []
-lines_of (b ∷ bs) = cond (inside b) (onto b (lines_of bs)) ([] ∷ lines_of bs)
+lines_of bs = slice_split newline bs
 
 -- a carriage return at the end of a line does not count
 abbrev pub without_return : List ℕ → List ℕ
@@ -25,8 +23,7 @@ abbrev pub blank : ℕ → Bool
 blank b = cond (b == 32) true (b == 9)
 
 abbrev pub all_blank : List ℕ → Bool
-all_blank [] = true
-all_blank (b ∷ bs) = cond (blank b) (all_blank bs) false
+all_blank bs = list_all blank bs
 
 -- 0 to 9
 abbrev pub digit : ℕ → Bool
@@ -45,13 +42,16 @@ small (Some n) = cond (nat_lt n (2 ^ 32)) (Some n) None
 abbrev pub number_of : List ℕ → Option ℕ
 number_of bs = small (decimal_after 0 bs)
 
-abbrev pub row_or_unfit : Option ℕ → Line
-row_or_unfit None = Unfit
-row_or_unfit (Some n) = Row n
+abbrev pub unfit : NotANumber
+unfit = record {}
 
--- blank lines and lines that begin with # are skipped; any other is a number below 2^32 or unfit
-abbrev pub text_of : List ℕ → Line
-text_of bs = cond (all_blank bs) Skipped (cond (slice_index bs 0 == 35) Skipped (row_or_unfit (number_of bs)))
+abbrev pub row_of : Option ℕ → Result (Option ℕ) NotANumber
+row_of None = Err unfit
+row_of (Some n) = Ok (Some n)
 
-abbrev pub line_of : List ℕ → Line
+-- blank lines and lines that begin with # are skipped, and are no row; any other is a number below 2^32 or unfit
+abbrev pub text_of : List ℕ → Result (Option ℕ) NotANumber
+text_of bs = cond (all_blank bs) (Ok None) (cond (slice_index bs 0 == 35) (Ok None) (row_of (number_of bs)))
+
+abbrev pub line_of : List ℕ → Result (Option ℕ) NotANumber
 line_of bs = text_of (without_return bs)

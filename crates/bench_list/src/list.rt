@@ -1,51 +1,67 @@
 // A bench list, from its text to its rows.
-ghost use Rattle.std.specs.Prelude.{◌≡◌, ◌≤◌, length, IfOk};
+ghost use Rattle.std.specs.Prelude.{◌≡◌, ◌+◌, ◌^◌, ◌<◌, ◌≤◌, length, IfOk, Some};
 ghost use Rattle.bench_list.specs.Lines.{lines_of, line_of};
-ghost use Rattle.bench_list.specs.Reading.{Read, reading, Stepped};
+ghost use Rattle.bench_list.specs.Reading.{Read, reading, Stepped, fault_text};
 
 use crate::lines;
-use crate::lines::Line;
+use std::error::Error;
+use std::fmt;
 
 // What is wrong with a list, and in which line, the first being 1.
-#[derive(Clone, Copy)]
+#[derive(Clone, Copy, Debug, PartialEq, Eq)]
 pub enum ListFault {
     NotANumber { line: usize },
-    TooManyRows { line: usize },
+    // The caller's slice has places for so many rows.
+    TooManyRows { line: usize, places: usize },
 }
 
+impl fmt::Display for ListFault {
+    ghost output = { λ fault. Some (fault_text fault) };
+
+    fn fmt<W: fmt::Write>(&self, f: &mut fmt::Formatter<W>) -> fmt::Result {
+        match self {
+            ListFault::NotANumber { line } => {
+                write!(f, "line {line}: not a number below 4294967296")
+            },
+            ListFault::TooManyRows { line, places } => {
+                write!(f, "line {line}: more than {places} rows")
+            },
+        }
+    }
+}
+
+impl Error for ListFault {}
+
 // Reads the rows into the front of `rows`, and answers how many there are; the first fault ends it.
+// The library has no heap: the caller lends the places, and the count says how many hold a row.
 pub fn read_list(text: &[u8], rows: &mut [u32]) -> Result<usize, ListFault>
-    ensures read { Read (reading (length rows.old) 1 (lines_of text.now)) rows.old result rows.new }
+    ensures read { Read (reading (length rows.old) 0 1 (lines_of text.now)) rows.old result rows.new }
     ensures within { IfOk result (λ count. count ≤ length rows.old) }
 {
     let mut count = 0;
-    let mut line = 1;
-    let mut at = 0;
-    'lines: loop {
-        let end = lines::line_end(text, at);
-        count = take_line(&text[at..end], line, rows, count)?;
-        if end >= text.len() {
-            return Ok(count);
-        }
-        at = end + 1;
-        line += 1;
+    for (index, line) in text.split(|b| *b == b'\n').enumerate() {
+        count = take_line(line, index, rows, count)?;
     }
+    Ok(count)
 }
 
-// One line, of which a row goes to the place `count`; answers how many rows there are then.
-fn take_line(text: &[u8], line: usize, rows: &mut [u32], count: usize) -> Result<usize, ListFault>
-    requires { count ≤ length rows.old }
-    ensures { Stepped (line_of text.now) line count rows.old result rows.new }
+// The line after `index` others, of which a row goes to the place `count`; answers how many rows there are then.
+fn take_line(text: &[u8], index: usize, rows: &mut [u32], count: usize) -> Result<usize, ListFault>
+    requires numbered { index + 1 < 2 ^ 64 }
+    requires few { count ≤ length rows.old }
+    ensures { Stepped (line_of text.now) (index + 1) count rows.old result rows.new }
 {
-    match lines::read_line(text) {
-        Line::Skipped => Ok(count),
-        Line::Unfit => Err(ListFault::NotANumber { line }),
-        Line::Row(n) => {
-            if count >= rows.len() {
-                return Err(ListFault::TooManyRows { line });
-            }
-            rows[count] = n;
-            Ok(count + 1)
-        }
+    let line = index + 1;
+    let row = lines::read_line(text).map_err(|_| ListFault::NotANumber { line })?;
+    let Some(number) = row else {
+        return Ok(count);
+    };
+    if count == rows.len() {
+        return Err(ListFault::TooManyRows {
+            line,
+            places: rows.len(),
+        });
     }
+    rows[count] = number;
+    Ok(count + 1)
 }

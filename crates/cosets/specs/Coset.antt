@@ -1,106 +1,96 @@
 -- A coset: shift * g^i, where g has the order 2^bits. Assumes nothing.
-use Rattle.std.specs.Prelude.{◌≡◌, ℕ, ◌-◌, ◌^◌, min, true, false, ◌≢◌, List, Some, None, Option, nat_le, nat_lt}
-use Rattle.algebra.specs.Ring.{RingOps, pow, sub}
+use Rattle.std.specs.Prelude.{◌≡◌, ℕ, ◌-◌, ◌^◌, ◌≤◌, true, false, ◌≢◌, List, Some, None, Option, nat_le, nat_lt}
+use native.Mathlib.Decide.{dec_le}
+use Rattle.std.specs.declared.cmp.PartialEq.{Ghosts as PartialEqMeaning}
+use Rattle.std.specs.declared.ops.Add.{Ghosts as AddMeaning}
+use Rattle.std.specs.declared.ops.Mul.{Ghosts as MulMeaning}
+use Rattle.std.specs.declared.ops.Neg.{Ghosts as NegMeaning}
+use Rattle.std.specs.declared.ops.Sub.{Ghosts as SubMeaning}
+use Rattle.algebra.specs.Ring.{pow, sub}
 use Rattle.algebra.specs.Field.{total}
 use Rattle.algebra.specs.Domain.{coset}
-use Rattle.field.specs.Numbers.{when}
 use Rattle.field.specs.TwoAdic.{root}
 use Rattle.field.specs.declared.traits.Field.{Ghosts as FieldMeaning}
+use Rattle.field.specs.declared.traits.PrimeField.{Ghosts as PrimeMeaning}
 use Rattle.field.specs.declared.roots.TwoAdic.{Ghosts as TwoAdicMeaning}
+use Rattle.field.specs.declared.extension.Extension.{Ghosts as ExtensionMeaning}
 use Rattle.cosets.specs.declared.Coset.{Coset}
 use Rattle.domain.specs.declared.selectors.Selectors.{Selectors}
 use Rattle.domain.specs.Logarithm.{log_within}
-use Rattle.domain.specs.Nonzero.{unless_zero}
+use Rattle.domain.specs.Zero.{dec_zero}
 
--- what a field with a generator is, for a coset
-pub record Turns (F : Type 0) : Type 0 where
-  pub ops : RingOps F
-  pub inverse : F → Option F
-  pub generator : F
-  pub odd : ℕ
-  pub most : ℕ
-  pub apart : ℕ
+module _ {F E : Type 0} {two : TwoAdicMeaning F} {prime : PrimeMeaning F} {field : FieldMeaning F} {eqs : PartialEqMeaning F} {adds : AddMeaning F F F} {subs : SubMeaning F F F} {muls : MulMeaning F F F} {negs : NegMeaning F F} where
+  abbrev pub step_of : Coset F E two prime field eqs adds subs muls negs → F
+  step_of d = root field.ops two.generated two.odd two.bits d.bits
 
-abbrev pub turns : {F : Type 0} → FieldMeaning F → TwoAdicMeaning F → Turns F
-turns f t = record { ops = f.ops; inverse = f.inverted; generator = t.generated; odd = t.odd; most = t.bits; apart = t.apart }
+  abbrev pub points_of : Coset F E two prime field eqs adds subs muls negs → List F
+  points_of d = coset field.ops d.shift (step_of d) (2 ^ d.bits)
 
-module _ {F E : Type 0} (t : Turns F) where
-  open t use {ops, inverse, generator, odd, most, apart}
+  abbrev pub scale_of : Coset F E two prime field eqs adds subs muls negs → F
+  scale_of d = pow field.ops (total field.ops field.inverted d.shift) (2 ^ d.bits)
 
-  -- a shift of zero reads as one
-  abbrev pub shift_of : Coset F E → F
-  shift_of d = unless_zero ops d.shift (inverse d.shift)
+  abbrev pub made_by : (shift : F) (bits : ℕ) → Dec (shift ≡ field.ops.zero) → Dec (bits ≤ two.bits) → Option (Coset F E two prime field eqs adds subs muls negs)
+  made_by shift bits (yes zero) fits = None
+  made_by shift bits (no shifted) (no large) = None
+  made_by shift bits (no shifted) (yes fits) = Some (record { shift = shift; bits = bits; above = record {}; shifted = shifted; fits = fits })
 
-  -- a size that the field does not have reads as the largest
-  abbrev pub bits_of : Coset F E → ℕ
-  bits_of d = min d.bits most
+  -- that shift and 2^bits points; absent where the shift is zero, or the field has no root of that order
+  abbrev pub made : F → ℕ → Option (Coset F E two prime field eqs adds subs muls negs)
+  made shift bits = made_by shift bits (dec_zero field.laws shift) (dec_le bits two.bits)
 
-  abbrev pub step_of : Coset F E → F
-  step_of d = root ops generator odd most (bits_of d)
+  abbrev pub placed_by : F → Option ℕ → Option (Coset F E two prime field eqs adds subs muls negs)
+  placed_by shift None = None
+  placed_by shift (Some bits) = made shift bits
 
-  abbrev pub points_of : Coset F E → List F
-  points_of d = coset ops (shift_of d) (step_of d) (2 ^ bits_of d)
-
-  abbrev pub scale_of : Coset F E → F
-  scale_of d = pow ops (total ops inverse (shift_of d)) (2 ^ bits_of d)
-
-  abbrev pub moved : Coset F E → F → ℕ → Coset F E
-  moved d shift bits = record { shift = shift; bits = bits; above = d.above }
-
-  abbrev pub placed_by : F → Option F → Option ℕ → Option (Coset F E)
-  placed_by shift None found = None
-  placed_by shift (Some i) None = None
-  placed_by shift (Some i) (Some bits) = Some (record { shift = shift; bits = bits; above = None })
-
-  -- absent where the shift is zero, or the size is none of 1, 2, 4 and so on up to 2^most
-  abbrev pub placed : F → ℕ → Option (Coset F E)
-  placed shift size = placed_by shift (inverse shift) (log_within most size)
+  -- absent where the shift is zero, or the size is none of 1, 2, 4 and so on up to the largest that the field has
+  abbrev pub placed : F → ℕ → Option (Coset F E two prime field eqs adds subs muls negs)
+  placed shift size = placed_by shift (log_within two.bits size)
 
   -- shift 1 and 2^bits points; absent where the field has no root of that order
-  abbrev pub natural_of : ℕ → Option (Coset F E)
-  natural_of bits = when (nat_le bits most) (record { shift = ops.one; bits = bits; above = None })
+  abbrev pub natural_of : ℕ → Option (Coset F E two prime field eqs adds subs muls negs)
+  natural_of bits = made field.ops.one bits
 
-  abbrev pub beside_by : Coset F E → Option ℕ → Option (Coset F E)
+  abbrev pub beside_by : Coset F E two prime field eqs adds subs muls negs → Option ℕ → Option (Coset F E two prime field eqs adds subs muls negs)
   beside_by d None = None
-  beside_by d (Some bits) = elim (nat_le (bits_of d) apart) [ true ↦ Some (moved d (ops.mul generator (shift_of d)) bits) | false ↦ None ]
+  beside_by d (Some bits) = elim (nat_le d.bits two.apart) [ true ↦ made (field.ops.mul two.generated d.shift) bits | false ↦ None ]
 
   -- generator * shift, of the asked size
-  abbrev pub beside_of : Coset F E → ℕ → Option (Coset F E)
-  beside_of d n = beside_by d (log_within apart n)
+  abbrev pub beside_of : Coset F E two prime field eqs adds subs muls negs → ℕ → Option (Coset F E two prime field eqs adds subs muls negs)
+  beside_of d n = beside_by d (log_within two.apart n)
 
-  abbrev pub piece_by : Coset F E → ℕ → ℕ → Option ℕ → Option (Coset F E)
+  abbrev pub piece_by : Coset F E two prime field eqs adds subs muls negs → ℕ → ℕ → Option ℕ → Option (Coset F E two prime field eqs adds subs muls negs)
   piece_by d i k None = None
-  piece_by d i k (Some less) = elim (nat_lt i k) [ true ↦ Some (moved d (ops.mul (shift_of d) (pow ops (step_of d) i)) (bits_of d - less)) | false ↦ None ]
+  piece_by d i k (Some less) = elim (nat_lt i k) [ true ↦ made (field.ops.mul d.shift (pow field.ops (step_of d) i)) (d.bits - less) | false ↦ None ]
 
-  abbrev pub pieces_of : Coset F E → ℕ → ℕ → Option (Coset F E)
-  pieces_of d i k = piece_by d i k (log_within (bits_of d) k)
+  abbrev pub pieces_of : Coset F E two prime field eqs adds subs muls negs → ℕ → ℕ → Option (Coset F E two prime field eqs adds subs muls negs)
+  pieces_of d i k = piece_by d i k (log_within d.bits k)
 
-  module _ (o : RingOps E) (above : E → Option E) (embedded : F → E) where
+  module _ (above : FieldMeaning E) (over : ExtensionMeaning E F) where
     -- z over the shift
-    abbrev pub turned_of : Coset F E → E → E
-    turned_of d z = o.mul z (embedded (total ops inverse (shift_of d)))
+    abbrev pub turned_of : Coset F E two prime field eqs adds subs muls negs → E → E
+    turned_of d z = above.ops.mul z (over.embedded (total field.ops field.inverted d.shift))
 
     -- u^n - 1
-    abbrev pub vanish_of : Coset F E → E → E
-    vanish_of d z = sub o (pow o (turned_of d z) (2 ^ bits_of d)) o.one
+    abbrev pub vanish_of : Coset F E two prime field eqs adds subs muls negs → E → E
+    vanish_of d z = sub above.ops (pow above.ops (turned_of d z) (2 ^ d.bits)) above.ops.one
 
     -- u - 1/g
-    abbrev pub transition_of : Coset F E → E → E
-    transition_of d z = sub o (turned_of d z) (embedded (total ops inverse (step_of d)))
+    abbrev pub transition_of : Coset F E two prime field eqs adds subs muls negs → E → E
+    transition_of d z = sub above.ops (turned_of d z) (over.embedded (total field.ops field.inverted (step_of d)))
 
-    abbrev pub first_of : Coset F E → E → E
-    first_of d z = o.mul (vanish_of d z) (total o above (sub o (turned_of d z) o.one))
+    abbrev pub first_of : Coset F E two prime field eqs adds subs muls negs → E → E
+    first_of d z = above.ops.mul (vanish_of d z) (total above.ops above.inverted (sub above.ops (turned_of d z) above.ops.one))
 
-    abbrev pub last_of : Coset F E → E → E
-    last_of d z = o.mul (vanish_of d z) (total o above (transition_of d z))
+    abbrev pub last_of : Coset F E two prime field eqs adds subs muls negs → E → E
+    last_of d z = above.ops.mul (vanish_of d z) (total above.ops above.inverted (transition_of d z))
 
-    abbrev pub following_of : Coset F E → E → Option E
-    following_of d z = Some (o.mul (embedded (step_of d)) z)
+    abbrev pub following_of : Coset F E two prime field eqs adds subs muls negs → E → Option E
+    following_of d z = Some (above.ops.mul (over.embedded (step_of d)) z)
 
     -- u is neither 1 nor 1/g, and the selectors times what they were divided by are V
-    pub record Divided (d : Coset F E) (z : E) (s : Selectors E) : Type 0 where
-      pub not_first : turned_of d z ≢ o.one
-      pub not_last : turned_of d z ≢ embedded (total ops inverse (step_of d))
-      pub first : o.mul s.first (sub o (turned_of d z) o.one) ≡ vanish_of d z
-      pub last : o.mul s.last (sub o (turned_of d z) (embedded (total ops inverse (step_of d)))) ≡ vanish_of d z
-      pub inverse_of : o.mul s.inverse (vanish_of d z) ≡ o.one
+    pub record Divided (d : Coset F E two prime field eqs adds subs muls negs) (z : E) (s : Selectors E) : Type 0 where
+      pub not_first : turned_of d z ≢ above.ops.one
+      pub not_last : turned_of d z ≢ over.embedded (total field.ops field.inverted (step_of d))
+      pub first : above.ops.mul s.first (sub above.ops (turned_of d z) above.ops.one) ≡ vanish_of d z
+      pub last : above.ops.mul s.last (sub above.ops (turned_of d z) (over.embedded (total field.ops field.inverted (step_of d)))) ≡ vanish_of d z
+      pub inverse_of : above.ops.mul s.inverse (vanish_of d z) ≡ above.ops.one

@@ -3,13 +3,35 @@
 
 pub mod arith;
 
+ghost use Rattle.std.specs.Prelude.{◌≡◌, ◌≢◌, ◌≤◌, ⊤};
+
+use field::roots::TwoAdic;
+use std::alloc::AllocError;
+use std::marker::PhantomData;
+
 // The points are shift * g^i, where g has the order 2^bits.
-// The constructors refuse a zero shift and a size that F does not have, and the fields are private, so no caller has such a value.
-// The definitions are total all the same: they read a zero shift as one, and a size that F does not have as the largest.
-#[derive(Clone, Copy)]
-pub struct Coset<F, E> {
+pub struct Coset<F: TwoAdic, E> {
     shift: F,
     bits: u32,
-    // None: it only says which field lies above F.
-    above: Option<E>,
+    // The field above F.
+    above: PhantomData<E>,
+    ghost shifted: { shift ≢ F.Field.ops.zero },
+    ghost fits: { bits ≤ F.TwoAdic.bits },
 }
+
+// By hand: a struct whose ghost field names a bound has no derived copy.
+impl<F: TwoAdic, E> Clone for Coset<F, E> {
+    ghost is_clone = { λ x y. y ≡ x };
+
+    ghost is_infallible = { λ _. ⊤ };
+
+    fn clone(&self) -> Result<Coset<F, E>, AllocError> {
+        Ok(Coset {
+            shift: self.shift,
+            bits: self.bits,
+            above: PhantomData,
+        })
+    }
+}
+
+impl<F: TwoAdic, E> Copy for Coset<F, E> {}

@@ -1,8 +1,7 @@
-pub mod Chosen
 pub mod Embedding
 pub mod Logs
-pub mod Nonzeros
 pub mod Fronted
+pub mod Ratios
 pub mod Sampled
 pub mod Steps
 pub mod Through

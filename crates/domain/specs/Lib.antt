@@ -1,6 +1,7 @@
 pub mod Logarithm
-pub mod Nonzero
 pub mod Periodic
 pub mod Pieces
+pub mod Points
 pub mod Selected
 pub mod Split
+pub mod Zero

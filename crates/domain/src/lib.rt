@@ -3,6 +3,7 @@
 
 pub mod periodic;
 pub mod powers;
+pub mod products;
 pub mod selectors;
 pub mod split;
 pub mod traits;

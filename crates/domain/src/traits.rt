@@ -9,13 +9,24 @@ use crate::selectors::Selectors;
 use field::extension::Extension;
 use field::traits::{Field, PrimeField};
 
-pub trait Domain: Copy {
+// Points of a prime field in order, and a field above it.
+// A trait below `Domain`, so that a domain's own methods may call what is written over points.
+pub trait Points: Copy {
     type Base: PrimeField;
 
     type Ext: Extension<Self::Base>;
 
     ghost points: { Self → List Self.Base };
 
+    fn size(self) -> usize
+        ensures { result ≡ length (points self) };
+
+    // Zero past the last point.
+    fn point(self, i: usize) -> Self::Base
+        ensures { result ≡ slice_index_or (points self) i Self.Base.Field.ops.zero };
+}
+
+pub trait Domain: Points {
     // V(z) is this times the product of z - p over the points p.
     ghost scale: { Self → Self.Base };
 
@@ -33,22 +44,15 @@ pub trait Domain: Copy {
 
     ghost degree: { ℕ };
 
-    fn size(self) -> usize
-        ensures { result ≡ length (points self) };
-
     fn first_point(self) -> Self::Base
-        ensures { result ≡ slice_index_or (points self) 0 Self.Base.Field.ops.zero };
-
-    // Zero past the last point.
-    fn point(self, i: usize) -> Self::Base
-        ensures { result ≡ slice_index_or (points self) i Self.Base.Field.ops.zero };
+        ensures { result ≡ slice_index_or (Self.points self) 0 Self.Base.Field.ops.zero };
 
     fn vanishing_at(self, z: Self::Ext) -> Self::Ext
-        ensures { result ≡ vanishing_at Self.Ext.Field.ops Self.Ext.Extension.embedded (scale self) (points self) z };
+        ensures { result ≡ vanishing_at Self.Ext.Field.ops Self.Ext.Extension.embedded (scale self) (Self.points self) z };
 
     // Absent exactly where V(z) is zero.
     fn selectors_at(self, z: Self::Ext) -> Option<Selectors<Self::Ext>>
-        ensures { result ≡ selected (first self z) (last self z) (transition self z) (Self.Ext.Field.inverted (vanishing_at Self.Ext.Field.ops Self.Ext.Extension.embedded (scale self) (points self) z)) };
+        ensures { result ≡ selected (first self z) (last self z) (transition self z) (Self.Ext.Field.inverted (vanishing_at Self.Ext.Field.ops Self.Ext.Extension.embedded (scale self) (Self.points self) z)) };
 
     fn next_point(self, z: Self::Ext) -> Option<Self::Ext>
         ensures { result ≡ following self z };
@@ -64,15 +68,15 @@ pub trait Domain: Copy {
     fn transition_degree() -> u32
         ensures { result ≡ degree };
 
-    ghost distinct: { (d : Self) → Distinct (points d) };
+    ghost distinct: { (d : Self) → Distinct (Self.points d) };
 
-    ghost doubled: { (d : Self) → PowerOfTwo (length (points d)) };
+    ghost doubled: { (d : Self) → PowerOfTwo (length (Self.points d)) };
 
     ghost scaled: { (d : Self) → scale d ≢ Self.Base.Field.ops.zero };
 
-    ghost separate: { (d e : Self) (n : ℕ) → beside d n ≡ Some e → (length (points e) ≡ n) × Apart (points d) (points e) };
+    ghost separate: { (d e : Self) (n : ℕ) → beside d n ≡ Some e → (length (Self.points e) ≡ n) × Apart (Self.points d) (Self.points e) };
 
-    ghost parted: { (d e : Self) (i k : ℕ) → pieces d i k ≡ Some e → PieceOf Self.Base.Field.ops.zero (points d) i k (points e) };
+    ghost parted: { (d e : Self) (i k : ℕ) → pieces d i k ≡ Some e → PieceOf Self.Base.Field.ops.zero (Self.points d) i k (Self.points e) };
 
-    ghost unparted: { (d : Self) (i k : ℕ) → i < k → length (points d) % k ≡ 0 → pieces d i k ≢ None };
+    ghost unparted: { (d : Self) (i k : ℕ) → i < k → length (Self.points d) % k ≡ 0 → pieces d i k ≢ None };
 }

@@ -2,32 +2,24 @@
 use Rattle.std.specs.Prelude.{Ok, Err, Result}
 use Rattle.transcript.specs.declared.shape.StarkShape.{StarkShape}
 use Rattle.transcript.specs.declared.failure.StarkTranscriptFailure.{StarkTranscriptFailure}
-use Rattle.transcript.specs.declared.phases.ConstraintOutcome.{ConstraintOutcome}
-use Rattle.transcript.specs.declared.phases.ConstraintOutcome.TheVariants as C
+use Rattle.transcript.specs.declared.failure.StarkTranscriptFailure.TheVariants.{PublicCount}
 use Rattle.transcript.specs.declared.phases.OodDraw.{OodDraw}
-use Rattle.ends.specs.declared.prover.ProverAlpha.{ProverAlpha}
-use Rattle.ends.specs.declared.prover.ProverZeta.{ProverZeta}
-use Rattle.ends.specs.declared.prover.ProverAlpha.TheVariants as PA
-use Rattle.ends.specs.declared.prover.ProverZeta.TheVariants as PZ
-use Rattle.ends.specs.declared.verifier.VerifierAlpha.{VerifierAlpha}
-use Rattle.ends.specs.declared.verifier.VerifierZeta.{VerifierZeta}
-use Rattle.ends.specs.declared.verifier.VerifierAlpha.TheVariants as VA
-use Rattle.ends.specs.declared.verifier.VerifierZeta.TheVariants as VZ
+use Rattle.ends.specs.declared.end.End.{End}
+use Rattle.ends.specs.declared.end.Stopped.{Stopped}
+use Rattle.ends.specs.declared.end.Stopped.TheVariants.{Refused, Ended}
 
-abbrev pub prover_alpha : {E : Type 0} → StarkShape → ConstraintOutcome E → ProverAlpha E
-prover_alpha sh (C.Passed alpha) = PA.Passed (record { shape = sh }) alpha
-prover_alpha sh (C.Refused f) = PA.Refused (record { shape = sh }) f
-prover_alpha sh (C.Ended f) = PA.Ended f
+abbrev pub end_of : {R P : Type 0} → StarkShape → End R P
+end_of sh = record { shape = sh; role = record {}; state = record {} }
 
-abbrev pub prover_zeta : {E : Type 0} → StarkShape → Result (OodDraw E) StarkTranscriptFailure → ProverZeta E
-prover_zeta sh (Ok drawn) = PZ.Passed (record { shape = sh }) drawn
-prover_zeta sh (Err f) = PZ.Ended f
+-- the wrong number of public values hands the end back, and another refusal ends the run
+abbrev pub stopped_by : {R P : Type 0} → StarkShape → StarkTranscriptFailure → Stopped (End R P)
+stopped_by sh PublicCount = Refused (end_of sh) PublicCount
+stopped_by sh f = Ended f
 
-abbrev pub verifier_alpha : {E : Type 0} → StarkShape → ConstraintOutcome E → VerifierAlpha E
-verifier_alpha sh (C.Passed alpha) = VA.Passed (record { shape = sh }) alpha
-verifier_alpha sh (C.Refused f) = VA.Refused (record { shape = sh }) f
-verifier_alpha sh (C.Ended f) = VA.Ended f
+abbrev pub after_alpha : {R M P E : Type 0} → StarkShape → Result E StarkTranscriptFailure → Result (End R M × E) (Stopped (End R P))
+after_alpha sh (Ok alpha) = Ok (end_of sh, alpha)
+after_alpha sh (Err f) = Err (stopped_by sh f)
 
-abbrev pub verifier_zeta : {E : Type 0} → StarkShape → Result E StarkTranscriptFailure → VerifierZeta E
-verifier_zeta sh (Ok drawn) = VZ.Passed (record { shape = sh }) drawn
-verifier_zeta sh (Err f) = VZ.Ended f
+abbrev pub after_zeta : {R P E : Type 0} → StarkShape → Result (OodDraw E) StarkTranscriptFailure → Result (End R P × OodDraw E) StarkTranscriptFailure
+after_zeta sh (Ok draw) = Ok (end_of sh, draw)
+after_zeta sh (Err f) = Err f

@@ -1,6 +1,7 @@
 -- Two small AIRs: the constraints 4, 0 and 2; and no constraint, with a degree. Assumes nothing.
 use Rattle.std.specs.Prelude.{ℕ, false, List, [], ◌∷◌, None, Option}
-use Rattle.expression.specs.Expression.{number, Expression, leaf}
+use Rattle.expression.specs.declared.Leaf.TheVariants.{Number}
+use Rattle.expression.specs.Expression.{Expression, leaf}
 use Rattle.air.specs.declared.builder.Layout.{Layout}
 
 abbrev pub declaring : Option ℕ → Layout
@@ -19,4 +20,4 @@ abbrev pub three_layout : Layout
 three_layout = declaring None
 
 abbrev pub three : List Expression
-three = leaf (number 4) ∷ leaf (number 0) ∷ leaf (number 2) ∷ []
+three = leaf (Number 4) ∷ leaf (Number 0) ∷ leaf (Number 2) ∷ []

@@ -11,10 +11,12 @@ pub fn worked_domains()
 
 #[cfg(test)]
 mod tests {
+    use crate::told::{number, pair, parts};
     use cosets::{Coset, arith as coset};
     use domain::periodic::Periodic;
     use domain::split;
-    use domain::traits::Domain;
+    use domain::split::Unsplit;
+    use domain::traits::{Domain, Points};
     use field::extension::Extension;
     use field::traits::{Field, PrimeField};
     use pair::Pair;
@@ -30,41 +32,23 @@ mod tests {
 
     type BigLine = Progression<BabyBear, Pair<BabyBear>>;
 
-    fn number<F: PrimeField>(x: Option<F>) -> Option<u32> {
-        match x {
-            Some(x) => Some(x.number()),
-            None => None,
-        }
-    }
-
     // The size, the first point and the last.
     fn shape<D: Domain>(d: Option<D>) -> Option<(usize, u32, u32)> {
-        match d {
-            Some(d) => {
-                let n = d.size();
-                if n == 0 {
-                    return None;
-                }
-                Some((n, d.first_point().number(), d.point(n - 1).number()))
-            }
-            None => None,
-        }
+        let d = d?;
+        let n = d.size();
+        let last = n.checked_sub(1)?;
+        Some((n, d.first_point().number(), d.point(last).number()))
     }
 
     fn beside<D: Domain>(d: Option<D>, size: usize) -> Option<(usize, u32, u32)> {
-        match d {
-            Some(d) => shape(d.disjoint(size)),
-            None => None,
-        }
+        shape(d?.disjoint(size))
     }
 
     fn part<D: Domain>(d: Option<D>, i: usize, k: usize) -> Option<(usize, u32, u32)> {
-        match d {
-            Some(d) => shape(d.piece(i, k)),
-            None => None,
-        }
+        shape(d?.piece(i, k))
     }
 
+    // A name for each, so that a test names no fields.
     fn turn(size: usize) -> Option<Turn> {
         coset::coset(Seventeen::one(), size)
     }
@@ -154,59 +138,27 @@ mod tests {
         assert_eq!(rt; shape(big_turn(268435456)), None);
         assert_eq!(rt; shape(big_line(1024)), Some((1024, 0, 1023)));
         assert_eq!(rt; shape(big_line(2048)), None);
-        match big_turn(134217728) {
-            Some(d) => {
-                assert_eq!(rt; d.size(), 134217728);
-                Ok(())
-            },
-            None => Err(Fail::new("a coset was expected")),
-        }
-    }
-
-    fn parts(x: Option<Pair<BabyBear>>) -> Option<(u32, u32)> {
-        match x {
-            Some(x) => Some((x.base.number(), x.root.number())),
-            None => None,
-        }
-    }
-
-    // √11
-    fn root() -> Pair<BabyBear> {
-        Pair {
-            base: BabyBear::zero(),
-            root: BabyBear::one(),
-        }
+        let Some(large) = big_turn(134217728) else {
+            return Err(Fail::new("a coset was expected"));
+        };
+        assert_eq!(rt; large.size(), 134217728);
+        Ok(())
     }
 
     fn vanishing<D: Domain>(d: Option<D>, z: D::Ext) -> Option<D::Ext> {
-        match d {
-            Some(d) => Some(d.vanishing_at(z)),
-            None => None,
-        }
+        d.map(|d| d.vanishing_at(z))
     }
 
     fn first<D: Domain>(d: Option<D>, z: D::Ext) -> Option<D::Ext> {
-        match d {
-            Some(d) => match d.selectors_at(z) {
-                Some(s) => Some(s.first),
-                None => None,
-            },
-            None => None,
-        }
+        d?.selectors_at(z).map(|s| s.first)
     }
 
     fn next<D: Domain>(d: Option<D>, z: D::Ext) -> Option<D::Ext> {
-        match d {
-            Some(d) => d.next_point(z),
-            None => None,
-        }
+        d?.next_point(z)
     }
 
     fn column<D: Periodic>(d: Option<D>, values: &[D::Base], z: D::Ext) -> Option<D::Ext> {
-        match d {
-            Some(d) => d.periodic_value(values, z),
-            None => None,
-        }
+        d?.periodic_value(values, z)
     }
 
     #[test]
@@ -247,7 +199,8 @@ mod tests {
 
     #[test]
     fn values_at_pairs(rt: HostRuntime) {
-        let z = root();
+        // √11
+        let z = pair(0, 1);
         assert_eq!(rt; parts(vanishing(big_turn(2), z)), Some((10, 0)));
         assert_eq!(rt; parts(next(big_turn(2), z)), Some((0, 2013265920)));
         assert_eq!(rt;
@@ -258,29 +211,20 @@ mod tests {
         assert_eq!(rt; parts(next(big_line(2), z)), Some((1, 1)));
     }
 
-    // Whether the split was made, and the first points that the places then have.
-    fn three_places(k: usize) -> (bool, u32, u32, u32) {
-        match turn(4) {
-            Some(d) => {
-                let mut places = [d; 3];
-                let made = split::split(d, k, &mut places);
-                (
-                    made,
-                    places[0].first_point().number(),
-                    places[1].first_point().number(),
-                    places[2].first_point().number(),
-                )
-            }
-            None => (false, 0, 0, 0),
-        }
+    // What the split answers, and the first points that the places then have.
+    fn three_places(k: usize) -> Option<(Result<(), Unsplit>, [u32; 3])> {
+        let d = turn(4)?;
+        let mut places = [d; 3];
+        let split = split::split(d, k, &mut places);
+        Some((split, places.map(|d| d.first_point().number())))
     }
 
     #[test]
     fn splits_into_a_slice(rt: HostRuntime) {
-        assert_eq!(rt; three_places(1), (true, 1, 1, 1));
-        assert_eq!(rt; three_places(2), (true, 1, 13, 1));
-        assert_eq!(rt; three_places(4), (false, 1, 1, 1));
-        assert_eq!(rt; three_places(3), (false, 1, 1, 1));
-        assert_eq!(rt; three_places(0), (false, 1, 1, 1));
+        assert_eq!(rt; three_places(1), Some((Ok(()), [1, 1, 1])));
+        assert_eq!(rt; three_places(2), Some((Ok(()), [1, 13, 1])));
+        assert_eq!(rt; three_places(4), Some((Err(Unsplit::FewPlaces), [1, 1, 1])));
+        assert_eq!(rt; three_places(3), Some((Err(Unsplit::Uneven), [1, 1, 1])));
+        assert_eq!(rt; three_places(0), Some((Err(Unsplit::NoPieces), [1, 1, 1])));
     }
 }

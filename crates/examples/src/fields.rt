@@ -1,6 +1,7 @@
 // Fields: inverses modulo 17, products of pairs, roots of unity and values of polynomials, with their numbers.
 #[cfg(test)]
 mod tests {
+    use crate::told::{number, pair, parts};
     use field::extension::Extension;
     use field::traits::{Field, PrimeField};
     use field::{horner, roots};
@@ -11,27 +12,6 @@ mod tests {
     // The inverses of 1 to 16 modulo 17.
     const INVERSES: [u32; 16] = [1, 9, 6, 13, 7, 3, 5, 15, 2, 12, 14, 10, 4, 11, 8, 16];
 
-    fn number<F: PrimeField>(x: Option<F>) -> Option<u32> {
-        match x {
-            Some(x) => Some(x.number()),
-            None => None,
-        }
-    }
-
-    fn parts(x: Option<Pair<BabyBear>>) -> Option<(u32, u32)> {
-        match x {
-            Some(x) => Some((x.base.number(), x.root.number())),
-            None => None,
-        }
-    }
-
-    fn pair(base: u32, root: u32) -> Pair<BabyBear> {
-        Pair {
-            base: BabyBear::from_u32(base),
-            root: BabyBear::from_u32(root),
-        }
-    }
-
     fn check_pair(rt: &impl Abort, x: Pair<BabyBear>, base: u32, root: u32) {
         assert_eq!(rt; x.base.number(), base);
         assert_eq!(rt; x.root.number(), root);
@@ -40,9 +20,8 @@ mod tests {
     #[test]
     fn inverses_modulo_17(rt: HostRuntime) {
         assert_eq!(rt; number(Seventeen::zero().inverse()), None);
-        for i in 0..16usize {
-            let x = Seventeen::from_u32(i as u32 + 1);
-            assert_eq!(rt; number(x.inverse()), Some(INVERSES[i]));
+        for (n, inverse) in (1..17u32).zip(INVERSES) {
+            assert_eq!(rt; number(Seventeen::from_u32(n).inverse()), Some(inverse));
         }
     }
 
@@ -57,20 +36,18 @@ mod tests {
         assert_eq!(rt; Seventeen::from_u32(4294967295).number(), 0);
         assert_eq!(rt; BabyBear::from_u32(4294967295).number(), 268435453);
         assert_eq!(rt;
-            Seventeen::from_u32(3).sub(Seventeen::from_u32(5)).number(),
+            (Seventeen::from_u32(3) - Seventeen::from_u32(5)).number(),
             15
         );
-        assert_eq!(rt; Seventeen::zero().neg().number(), 0);
+        assert_eq!(rt; (-Seventeen::zero()).number(), 0);
     }
 
     #[test]
     fn large_products(rt: HostRuntime) {
         let last = BabyBear::from_u32(2013265920);
-        assert_eq!(rt; last.mul(last).number(), 1);
+        assert_eq!(rt; (last * last).number(), 1);
         assert_eq!(rt;
-            BabyBear::from_u32(123456789)
-                .mul(BabyBear::from_u32(987654321))
-                .number(),
+            (BabyBear::from_u32(123456789) * BabyBear::from_u32(987654321)).number(),
             6500116
         );
         assert_eq!(rt; number(BabyBear::from_u32(3).inverse()), Some(1342177281));
@@ -78,11 +55,11 @@ mod tests {
 
     #[test]
     fn products_of_pairs(rt: HostRuntime) {
-        check_pair(&rt, pair(0, 1).mul(pair(0, 1)), 11, 0);
-        check_pair(&rt, pair(3, 4).mul(pair(5, 6)), 279, 38);
-        check_pair(&rt, pair(2013265920, 1).mul(pair(1, 1)), 10, 0);
-        check_pair(&rt, pair(3, 4).sub(pair(5, 6)), 2013265919, 2013265919);
-        check_pair(&rt, pair(3, 4).neg(), 2013265918, 2013265917);
+        check_pair(&rt, pair(0, 1) * pair(0, 1), 11, 0);
+        check_pair(&rt, pair(3, 4) * pair(5, 6), 279, 38);
+        check_pair(&rt, pair(2013265920, 1) * pair(1, 1), 10, 0);
+        check_pair(&rt, pair(3, 4) - pair(5, 6), 2013265919, 2013265919);
+        check_pair(&rt, -pair(3, 4), 2013265918, 2013265917);
         assert_eq!(rt; parts(pair(3, 4).inverse()), Some((1169382002, 1796267199)));
         assert_eq!(rt; parts(pair(0, 0).inverse()), None);
         assert!(rt; !pair(3, 4).equals(pair(3, 5)));

@@ -4,5 +4,7 @@
 pub mod domains;
 mod fields;
 mod lists;
+#[cfg(test)]
+mod told;
 mod worked_airs;
 mod worked_transcript;

@@ -1,5 +1,5 @@
 // AIRs: folds, degrees and chunk counts, rows that are too short, and tables of stations modulo 17.
-ghost use Rattle.std.specs.Prelude.{◌≡◌, [], ◌∷◌, refl};
+ghost use Rattle.std.specs.Prelude.{◌≡◌, ◌≤◌, [], ◌∷◌, refl};
 ghost use Rattle.examples.specs.Airs.{declaring, three, three_layout};
 
 use air::builder::{Air, AirBuilder, Layout, Rows};
@@ -24,16 +24,7 @@ impl<F: Field> Air<F> for Three {
     ghost sound = { λ _. record { within = refl; counted = refl } };
 
     fn layout(&self) -> Layout {
-        Layout {
-            width: 0,
-            preprocessed_width: 0,
-            num_public_values: 0,
-            num_periodic_columns: 0,
-            main_next: false,
-            preprocessed_next: false,
-            boundary_io: 0,
-            max_constraint_degree: None,
-        }
+        Layout::default()
     }
 
     fn periodic_column(&self, _column: usize) -> &[F] {
@@ -64,14 +55,8 @@ impl<F: Field> Air<F> for Declaring {
 
     fn layout(&self) -> Layout {
         Layout {
-            width: 0,
-            preprocessed_width: 0,
-            num_public_values: 0,
-            num_periodic_columns: 0,
-            main_next: false,
-            preprocessed_next: false,
-            boundary_io: 0,
             max_constraint_degree: self.degree,
+            ..Layout::default()
         }
     }
 
@@ -83,8 +68,8 @@ impl<F: Field> Air<F> for Declaring {
 }
 
 // ((0 * 3 + 4) * 3 + 0) * 3 + 2 modulo 17; the rows are empty.
-fn three_by_three<'a>(none: &'a [Seventeen]) -> u32
-    ensures { result ≡ 4 }
+fn three_by_three<'a>(none: &'a [Seventeen]) -> Option<u32>
+    ensures { result ≡ Some 4 }
 {
     let rows = OpenedRows {
         main: none,
@@ -97,23 +82,16 @@ fn three_by_three<'a>(none: &'a [Seventeen]) -> u32
         is_last_row: Seventeen::zero(),
         is_transition: Seventeen::zero(),
     };
-    match fold_constraints(&Three, &rows, Seventeen::from_u32(3)) {
-        Ok(folded) => folded.number(),
-        Err(_) => 17,
-    }
+    let folded = fold_constraints(&Three, &rows, Seventeen::from_u32(3)).ok()?;
+    Some(folded.number())
 }
 
 // On a coset the transition selector has degree 0, and on a progression 1.
-fn station_degree_on_a_coset() -> u32
+fn station_degree(transition: u32) -> u32
+    requires { transition ≤ 1 }
     ensures { result ≡ 2 }
 {
-    constraint_degree::<Seventeen, StationAir>(&StationAir, 0)
-}
-
-fn station_degree_on_a_progression() -> u32
-    ensures { result ≡ 2 }
-{
-    constraint_degree::<Seventeen, StationAir>(&StationAir, 1)
+    constraint_degree::<Seventeen, StationAir>(&StationAir, transition)
 }
 
 // 2^32 chunks for the greatest degree, under zero knowledge.
@@ -132,76 +110,56 @@ fn most_chunks() -> usize
 #[cfg(test)]
 mod tests {
     use super::*;
+    use crate::told::number;
     use air::picker::constraint_value;
     use airs::weight::WeightAir;
     use symbolic::log2_ceil;
-    use walk::{
-        StationRow, WalkEnds, constraint_in_row, failing_constraint, first_failure, vanishes_in_row,
-    };
+    use walk::{StationRow, Table, WalkEnds};
 
-    // A number from 0 to 16, and nothing where there was no answer.
-    fn number(x: Option<Seventeen>) -> Option<u32> {
-        match x {
-            Some(x) => Some(x.number()),
-            None => None,
-        }
-    }
-
-    // A station, and eight bits from a byte.
+    // A station, and eight bits from a byte, written out as the row is.
     fn row(station: u32, byte: u32) -> StationRow<Seventeen> {
+        let words = [
+            station,
+            byte & 1,
+            (byte >> 1) & 1,
+            (byte >> 2) & 1,
+            (byte >> 3) & 1,
+            (byte >> 4) & 1,
+            (byte >> 5) & 1,
+            (byte >> 6) & 1,
+            (byte >> 7) & 1,
+        ];
         StationRow {
-            cells: [
-                Seventeen::from_u32(station),
-                Seventeen::from_u32(byte & 1),
-                Seventeen::from_u32((byte >> 1) & 1),
-                Seventeen::from_u32((byte >> 2) & 1),
-                Seventeen::from_u32((byte >> 3) & 1),
-                Seventeen::from_u32((byte >> 4) & 1),
-                Seventeen::from_u32((byte >> 5) & 1),
-                Seventeen::from_u32((byte >> 6) & 1),
-                Seventeen::from_u32((byte >> 7) & 1),
-            ],
+            cells: words.map(Seventeen::from_u32),
         }
     }
 
     // The bits 1, 1, 2 and zeros.
     fn bit_two_is_two(station: u32) -> StationRow<Seventeen> {
-        let one = Seventeen::one();
-        let zero = Seventeen::zero();
         StationRow {
-            cells: [
-                Seventeen::from_u32(station),
-                one,
-                one,
-                Seventeen::from_u32(2),
-                zero,
-                zero,
-                zero,
-                zero,
-                zero,
-            ],
+            cells: [station, 1, 1, 2, 0, 0, 0, 0, 0].map(Seventeen::from_u32),
         }
     }
 
     fn ends(from: u32, to: u32) -> WalkEnds<Seventeen> {
         WalkEnds {
-            values: [Seventeen::from_u32(from), Seventeen::from_u32(to)],
+            values: [from, to].map(Seventeen::from_u32),
         }
     }
 
     fn failure(rows: &[StationRow<Seventeen>], from: u32, to: u32) -> Option<(usize, usize)> {
-        match first_failure(rows, &ends(from, to)) {
-            Some(failure) => Some((failure.row, failure.constraint)),
-            None => None,
-        }
+        let ends = ends(from, to);
+        let table = Table { rows, ends: &ends };
+        let failure = table.first_failure()?;
+        Some((failure.row, failure.constraint))
     }
 
-    // The weight AIR's one constraint, folded by 3; 17 where it is refused.
+    // The weight AIR's one constraint, folded by 3; nothing where it is refused.
     fn weigh<'a>(
         main: &'a [Seventeen],
         preprocessed: &'a [Seventeen],
         periodic_values: &'a [Seventeen],
-    ) -> u32 {
+    ) -> Option<u32> {
         let rows = OpenedRows {
             main,
             main_next: None,
@@ -213,33 +171,31 @@ mod tests {
             is_last_row: Seventeen::zero(),
             is_transition: Seventeen::one(),
         };
-        match fold_constraints(&WeightAir::new(), &rows, Seventeen::from_u32(3)) {
-            Ok(folded) => folded.number(),
-            Err(_) => 17,
-        }
+        let folded = fold_constraints(&WeightAir::new(), &rows, Seventeen::from_u32(3)).ok()?;
+        Some(folded.number())
     }
 
     #[test]
     fn folds(rt: HostRuntime) {
-        assert_eq!(rt; three_by_three(&[]), 4);
+        assert_eq!(rt; three_by_three(&[]), Some(4));
         let w = [Seventeen::from_u32(3)];
         let k = [Seventeen::one()];
         assert_eq!(rt;
             weigh(&[Seventeen::from_u32(5), Seventeen::from_u32(16)], &w, &k),
-            0
+            Some(0)
         );
         assert_eq!(rt;
             weigh(&[Seventeen::from_u32(5), Seventeen::zero()], &w, &k),
-            1
+            Some(1)
         );
-        assert_eq!(rt; weigh(&[Seventeen::from_u32(5)], &w, &k), 17);
+        assert_eq!(rt; weigh(&[Seventeen::from_u32(5)], &w, &k), None);
         assert_eq!(rt;
             weigh(&[Seventeen::from_u32(5), Seventeen::from_u32(16)], &[], &k),
-            17
+            None
         );
         assert_eq!(rt;
             weigh(&[Seventeen::from_u32(5), Seventeen::from_u32(16)], &w, &[]),
-            17
+            None
         );
     }
 
@@ -256,8 +212,8 @@ mod tests {
 
     #[test]
     fn degrees(rt: HostRuntime) {
-        assert_eq!(rt; station_degree_on_a_coset(), 2);
-        assert_eq!(rt; station_degree_on_a_progression(), 2);
+        assert_eq!(rt; station_degree(0), 2);
+        assert_eq!(rt; station_degree(1), 2);
         assert_eq!(rt;
             constraint_degree::<Seventeen, StationAir>(&StationAir, 4294967294),
             4294967295
@@ -310,14 +266,18 @@ mod tests {
     fn a_wrong_step_and_a_wrong_bit(rt: HostRuntime) {
         let rows = [row(2, 5), row(8, 1), bit_two_is_two(9), row(0, 0)];
         assert_eq!(rt; failure(&rows, 2, 0), Some((1, 8)));
-        let e = ends(2, 0);
-        assert_eq!(rt; failing_constraint(&rows, &e, 2, 0), Some(2));
-        assert_eq!(rt; failing_constraint(&rows, &e, 2, 3), Some(8));
-        assert_eq!(rt; failing_constraint(&rows, &e, 2, 9), None);
-        assert_eq!(rt; number(constraint_in_row(&rows, &e, 2, 2)), Some(2));
-        assert_eq!(rt; number(constraint_in_row(&rows, &e, 2, 11)), None);
-        assert_eq!(rt; number(constraint_in_row(&rows, &e, 4, 0)), None);
-        assert!(rt; vanishes_in_row(&rows, &e, 4, 0));
+        let ends = ends(2, 0);
+        let table = Table {
+            rows: &rows,
+            ends: &ends,
+        };
+        assert_eq!(rt; table.failing_constraint(2, 0), Some(2));
+        assert_eq!(rt; table.failing_constraint(2, 3), Some(8));
+        assert_eq!(rt; table.failing_constraint(2, 9), None);
+        assert_eq!(rt; number(table.constraint_in_row(2, 2)), Some(2));
+        assert_eq!(rt; number(table.constraint_in_row(2, 11)), None);
+        assert_eq!(rt; number(table.constraint_in_row(4, 0)), None);
+        assert!(rt; table.vanishes_in_row(4, 0));
     }
 
     // Modulo 17 the bit 4 alone spells -1, so that a step of 1 + 16 goes nowhere: the walk comes to 5 twice.
@@ -354,9 +314,6 @@ mod tests {
             is_last_row: Seventeen::zero(),
             is_transition: Seventeen::one(),
         };
-        match constraint_value(&StationAir, &rows, constraint) {
-            Ok(value) => value,
-            Err(_) => None,
-        }
+        constraint_value(&StationAir, &rows, constraint).ok()?
     }
 }

@@ -1,13 +1,18 @@
 // Sponges and transcripts, with the numbers that tools/sponge_vectors.py computes from the rules.
+ghost use Rattle.std.specs.Prelude.{◌<◌, ◌≤◌, length};
+
 #[cfg(test)]
 mod tests {
     use field::traits::{Field, PrimeField};
     use pair::Pair;
     use rehearsal::rehearse::{Rehearsal, rehearse};
     use rehearsal::request::Request;
-    use rehearsal::standing::Standing;
+    use rehearsal::standing::{Drawn, Standing};
     use residue::moduli::{BabyBear, Seventeen};
     use sponge::{Duplex, Rolling, Sponge};
+    use std::process::Abort;
+    use transcript::challenge::Challenge;
+    use transcript::input::{ConstraintInput, OodInput};
     use transcript::seed::seed_length;
     use transcript::shape::StarkShape;
 
@@ -17,34 +22,42 @@ mod tests {
         }
     }
 
+    // Three words of a new sponge, two once it took 1 to 4, and one once it took five numbers.
+    fn check_words<S: Sponge>(rt: &impl Abort, new: S, words: [u32; 6]) {
+        let [first, second, third, fourth, fifth, sixth] = words;
+        let mut sponge = new;
+        assert_eq!(rt; sponge.give(), first);
+        assert_eq!(rt; sponge.give(), second);
+        assert_eq!(rt; sponge.give(), third);
+        let mut sponge = new;
+        take_all(&mut sponge, &[1, 2, 3, 4]);
+        assert_eq!(rt; sponge.give(), fourth);
+        assert_eq!(rt; sponge.give(), fifth);
+        let mut sponge = new;
+        take_all(&mut sponge, &[4294967295, 7, 4294967295, 0, 5]);
+        assert_eq!(rt; sponge.give(), sixth);
+    }
+
     #[test]
     fn rolling_words(rt: HostRuntime) {
-        let mut sponge = Rolling::new();
-        assert_eq!(rt; sponge.give(), 1013904223);
-        assert_eq!(rt; sponge.give(), 1196435762);
-        assert_eq!(rt; sponge.give(), 3519870697);
-        let mut sponge = Rolling::new();
-        take_all(&mut sponge, &[1, 2, 3, 4]);
-        assert_eq!(rt; sponge.give(), 275615725);
-        assert_eq!(rt; sponge.give(), 3346837608);
-        let mut sponge = Rolling::new();
-        take_all(&mut sponge, &[4294967295, 7, 4294967295, 0, 5]);
-        assert_eq!(rt; sponge.give(), 2283570892);
+        check_words(
+            &rt,
+            Rolling::new(),
+            [
+                1013904223, 1196435762, 3519870697, 275615725, 3346837608, 2283570892,
+            ],
+        );
     }
 
     #[test]
     fn duplex_words(rt: HostRuntime) {
-        let mut sponge = Duplex::new();
-        assert_eq!(rt; sponge.give(), 3694449955);
-        assert_eq!(rt; sponge.give(), 562918573);
-        assert_eq!(rt; sponge.give(), 3579597592);
-        let mut sponge = Duplex::new();
-        take_all(&mut sponge, &[1, 2, 3, 4]);
-        assert_eq!(rt; sponge.give(), 2379111717);
-        assert_eq!(rt; sponge.give(), 2167255149);
-        let mut sponge = Duplex::new();
-        take_all(&mut sponge, &[4294967295, 7, 4294967295, 0, 5]);
-        assert_eq!(rt; sponge.give(), 1039412061);
+        check_words(
+            &rt,
+            Duplex::new(),
+            [
+                3694449955, 562918573, 3579597592, 2379111717, 2167255149, 1039412061,
+            ],
+        );
     }
 
     // Asking leaves the sponge; 3 bits pass at 6, 14, 22 .., and none passes above 20.
@@ -67,6 +80,7 @@ mod tests {
         assert!(rt; !sponge.passes(6, 3));
     }
 
+    // Shapes are written out, with no default: the seed binds each of the numbers.
     fn shape(ood_pow_bits: usize) -> StarkShape {
         StarkShape {
             log_ext_degree: 3,
@@ -112,6 +126,7 @@ mod tests {
     struct Sent {
         trace: u64,
         preprocessed: Option<u64>,
+        // So many of the two values, which each field makes for itself.
         count: usize,
         random: Option<u64>,
     }
@@ -124,25 +139,26 @@ mod tests {
     };
 
     // A first attempt with one public value is refused and changes nothing.
-    fn asked(sent: Sent, last: u32) -> [Request; 6] {
+    fn asked<F>(sent: Sent, values: &[F], last: u32) -> [Request<'_, F>; 6]
+        requires one { 0 < length values.now }
+        requires enough { sent.count ≤ length values.now }
+    {
         [
-            Request::Constraint {
+            Request::Constraint(ConstraintInput {
                 trace: 5,
                 preprocessed: None,
-                from: 0,
-                count: 1,
-            },
-            Request::Constraint {
+                public_values: &values[0..1],
+            }),
+            Request::Constraint(ConstraintInput {
                 trace: sent.trace,
                 preprocessed: sent.preprocessed,
-                from: 0,
-                count: sent.count,
-            },
-            Request::OutOfDomain {
+                public_values: &values[0..sent.count],
+            }),
+            Request::OutOfDomain(OodInput {
                 quotient: 2,
                 random: sent.random,
                 last,
-            },
+            }),
             Request::Begin,
             Request::End,
             Request::Finish,
@@ -150,39 +166,52 @@ mod tests {
     }
 
     fn drawn_17(end: Standing<Seventeen>) -> Option<(u32, u32, u32)> {
-        match end {
-            Standing::Done(alpha, zeta, witness) => Some((alpha.number(), zeta.number(), witness)),
-            _ => None,
-        }
+        let Standing::Done(drawn) = end else {
+            return None;
+        };
+        Some((drawn.alpha.number(), drawn.zeta.number(), drawn.witness))
     }
 
     fn drawn_pairs(end: Standing<Pair<BabyBear>>) -> Option<([u32; 4], u32)> {
-        match end {
-            Standing::Done(alpha, zeta, witness) => Some((
-                [
-                    alpha.base.number(),
-                    alpha.root.number(),
-                    zeta.base.number(),
-                    zeta.root.number(),
-                ],
+        let Standing::Done(
+            Drawn {
+                alpha,
+                zeta,
                 witness,
-            )),
-            _ => None,
-        }
+            },
+        ) = end
+        else {
+            return None;
+        };
+        let numbers = [alpha.base, alpha.root, zeta.base, zeta.root].map(BabyBear::number);
+        Some((numbers, witness))
+    }
+
+    // A prover's budget is 100.
+    fn rehearsed<S: Sponge, F: PrimeField, E: Challenge<F>>(
+        start: S,
+        shape: StarkShape,
+        sent: Sent,
+        values: &[F],
+        witness: u32,
+    ) -> Rehearsal<E>
+        requires one { 0 < length values.now }
+        requires enough { sent.count ≤ length values.now }
+    {
+        let mut prover = start;
+        let mut verifier = start;
+        rehearse::<S, F, E>(
+            &mut prover,
+            &mut verifier,
+            shape,
+            &asked(sent, values, 100),
+            &asked(sent, values, witness),
+        )
     }
 
     fn over_17<S: Sponge>(start: S, shape: StarkShape, witness: u32) -> Rehearsal<Seventeen> {
         let values = [Seventeen::from_u32(3), Seventeen::from_u32(5)];
-        let mut prover = start;
-        let mut verifier = start;
-        rehearse::<S, Seventeen, Seventeen>(
-            &mut prover,
-            &mut verifier,
-            shape,
-            &asked(PLAIN, 100),
-            &asked(PLAIN, witness),
-            &values,
-        )
+        rehearsed::<S, Seventeen, Seventeen>(start, shape, PLAIN, &values, witness)
     }
 
     fn over_pairs<S: Sponge>(
@@ -190,18 +219,11 @@ mod tests {
         shape: StarkShape,
         sent: Sent,
         witness: u32,
-    ) -> Rehearsal<Pair<BabyBear>> {
+    ) -> Rehearsal<Pair<BabyBear>>
+        requires { sent.count ≤ 2 }
+    {
         let values = [BabyBear::from_u32(3), BabyBear::from_u32(5)];
-        let mut prover = start;
-        let mut verifier = start;
-        rehearse::<S, BabyBear, Pair<BabyBear>>(
-            &mut prover,
-            &mut verifier,
-            shape,
-            &asked(sent, 100),
-            &asked(sent, witness),
-            &values,
-        )
+        rehearsed::<S, BabyBear, Pair<BabyBear>>(start, shape, sent, &values, witness)
     }
 
     #[test]
@@ -261,10 +283,10 @@ mod tests {
     }
 
     fn failure(end: Standing<Seventeen>) -> Option<u32> {
-        match end {
-            Standing::Ended(failure) => Some(failure.number()),
-            _ => None,
-        }
+        let Standing::Ended(failure) = end else {
+            return None;
+        };
+        Some(failure.number())
     }
 
     // A witness that does not pass, a spent budget, and a preprocessed commitment that nothing describes.
@@ -281,25 +303,22 @@ mod tests {
         let values = [Seventeen::from_u32(3), Seventeen::from_u32(5)];
         let mut prover = Rolling::new();
         let mut verifier = Rolling::new();
-        let unexpected = [Request::Constraint {
+        let unexpected = [Request::Constraint(ConstraintInput {
             trace: 1,
             preprocessed: Some(4),
-            from: 0,
-            count: 2,
-        }];
-        let miscounted = [Request::Constraint {
+            public_values: &values,
+        })];
+        let miscounted = [Request::Constraint(ConstraintInput {
             trace: 1,
             preprocessed: Some(4),
-            from: 0,
-            count: 1,
-        }];
+            public_values: &values[0..1],
+        })];
         let both = rehearse::<Rolling, Seventeen, Seventeen>(
             &mut prover,
             &mut verifier,
             shape(0),
             &unexpected,
             &miscounted,
-            &values,
         );
         assert_eq!(rt; failure(both.prover), Some(28));
         assert!(rt; matches!(both.verifier, Standing::Start));

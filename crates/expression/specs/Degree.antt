@@ -1,18 +1,20 @@
 -- The degree of a constraint, where the transition selector has the degree t. Assumes nothing.
 use Rattle.std.specs.Prelude.{ℕ, ◌+◌, min, max, List, [], ◌∷◌}
-use Rattle.expression.specs.Expression.{Leaf, main, main_next, preprocessed, preprocessed_next, public, periodic, is_first, is_last, is_transition, number, Expression, leaf, sum, difference, product}
+use Rattle.expression.specs.declared.Leaf.{Leaf}
+use Rattle.expression.specs.declared.Leaf.TheVariants.{Main, MainNext, Preprocessed, PreprocessedNext, Public, Periodic, IsFirst, IsLast, IsTransition, Number}
+use Rattle.expression.specs.Expression.{Expression, leaf, sum, difference, product}
 
 abbrev pub leaf_degree : ℕ → Leaf → ℕ
-leaf_degree t (main i) = 1
-leaf_degree t (main_next i) = 1
-leaf_degree t (preprocessed i) = 1
-leaf_degree t (preprocessed_next i) = 1
-leaf_degree t (public i) = 0
-leaf_degree t (periodic i) = 1
-leaf_degree t is_first = 1
-leaf_degree t is_last = 1
-leaf_degree t is_transition = t
-leaf_degree t (number n) = 0
+leaf_degree t (Main i) = 1
+leaf_degree t (MainNext i) = 1
+leaf_degree t (Preprocessed i) = 1
+leaf_degree t (PreprocessedNext i) = 1
+leaf_degree t (Public i) = 0
+leaf_degree t (Periodic i) = 1
+leaf_degree t IsFirst = 1
+leaf_degree t IsLast = 1
+leaf_degree t IsTransition = t
+leaf_degree t (Number n) = 0
 
 -- a sum and a difference have the larger degree, and a product the sum of the two, which stops at 4294967295
 abbrev pub degree : ℕ → Expression → ℕ

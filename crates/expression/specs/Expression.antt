@@ -1,20 +1,8 @@
 -- An AIR's constraints as expressions, their values and their fold. Assumes nothing.
 use Rattle.std.specs.Prelude.{ℕ, zero, suc, Bool, true, ◌&&◌, List, [], ◌∷◌}
 use Rattle.algebra.specs.Ring.{RingOps, sub}
-
--- what an expression reads: the columns of the main and the preprocessed trace in the row at hand and in the next,
--- the public values, the periodic columns, the three selectors and the numbers
-pub data Leaf : Type 0 where
-  main : ℕ → Leaf
-  main_next : ℕ → Leaf
-  preprocessed : ℕ → Leaf
-  preprocessed_next : ℕ → Leaf
-  public : ℕ → Leaf
-  periodic : ℕ → Leaf
-  is_first : Leaf
-  is_last : Leaf
-  is_transition : Leaf
-  number : ℕ → Leaf
+use Rattle.expression.specs.declared.Leaf.{Leaf}
+use Rattle.expression.specs.declared.Leaf.TheVariants.{Main, Number}
 
 pub data Expression : Type 0 where
   leaf : Leaf → Expression
@@ -62,7 +50,7 @@ all_within passes (c ∷ cs) = within passes c && all_within passes cs
 
 -- zero where the cell of the column is 0 or 1
 abbrev pub boolean : ℕ → Expression
-boolean column = product (leaf (main column)) (difference (leaf (main column)) (leaf (number 1)))
+boolean column = product (leaf (Main column)) (difference (leaf (Main column)) (leaf (Number 1)))
 
 -- of n columns from one on, that each is 0 or 1
 abbrev pub booleans : ℕ → ℕ → List Expression

@@ -1,4 +1,3 @@
-pub mod Combinations
-pub mod Lists
+pub mod Folds
 pub mod RootOrder
 pub mod Squaring

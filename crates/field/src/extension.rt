@@ -16,6 +16,7 @@ pub trait Extension<F: Field>: Field {
     fn dimension() -> usize
         ensures { result ≡ dim };
 
+    // A bound From<F> would need a law to say that it is the embedding.
     fn embed(x: F) -> Self
         ensures { result ≡ embedded x };
 
@@ -57,16 +58,16 @@ impl<F: Field> Extension<F> for F {
     }
 
     fn combine(coefficients: &[F]) -> Option<F> {
-        match coefficients {
-            [x] => Some(*x),
-            _ => None,
-        }
+        let [x] = coefficients else {
+            return None;
+        };
+        Some(*x)
     }
 
     fn from_words(words: &[u32]) -> Option<F> {
-        if words.len() != 1 {
+        let [n] = words else {
             return None;
-        }
-        Some(F::from_u32(words[0]))
+        };
+        Some(F::from_u32(*n))
     }
 }

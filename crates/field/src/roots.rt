@@ -16,6 +16,7 @@ pub trait TwoAdic: PrimeField {
     // The generator is in no group of 2^apart elements.
     ghost apart: { ℕ };
 
+    // Functions and no constants: beside a constant stands a ghost member of its own, so an impl would say each number once more.
     fn greatest_bits() -> u32
         ensures { result ≡ bits };
 
@@ -42,7 +43,7 @@ pub fn root_of_unity<F: TwoAdic>(k: u32) -> Option<F>
     }
     let mut root = F::top_root();
     for _ in k..F::greatest_bits() {
-        root = root.mul(root);
+        root = root * root;
     }
     Some(root)
 }

@@ -1,3 +1,4 @@
 pub mod BabyBearPairs
 pub mod Laws
 pub mod Pair
+pub mod Printed

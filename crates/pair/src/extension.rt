@@ -43,10 +43,10 @@ impl Extension<BabyBear> for Pair<BabyBear> {
     }
 
     fn from_words(words: &[u32]) -> Option<Self> {
-        if words.len() != 2 {
+        let [v, w] = words else {
             return None;
-        }
-        Some(plus_root(Self::from_u32(words[0]), Self::from_u32(words[1])))
+        };
+        Some(plus_root(Self::from_u32(*v), Self::from_u32(*w)))
     }
 }
 
@@ -64,5 +64,5 @@ fn square_root() -> Pair<BabyBear>
 fn plus_root(x: Pair<BabyBear>, y: Pair<BabyBear>) -> Pair<BabyBear>
     ensures { result ≡ pairs.add x (pairs.mul y (pairs_basis 1)) }
 {
-    x.add(y.mul(square_root()))
+    x + y * square_root()
 }

@@ -1,67 +1,80 @@
 // Progressions are domains.
-ghost use Rattle.std.specs.Prelude.{◌≡◌, ◌^◌, ◌<◌, ◌≤◌, map, Some};
-ghost use Rattle.algebra.specs.Domain.{vanishing};
-ghost use Rattle.algebra.specs.Field.{total};
-ghost use Rattle.algebra.specs.Lagrange.{basis};
-ghost use Rattle.progressions.specs.Progression.{numbers, fitting, placed, natural_of, term as term_at, terms, step_of, bits_of, points_of, first_of, last_of, transition_of, following_of, beside_of, pieces_of};
+ghost use Rattle.std.specs.Prelude.{◌≡◌, ◌^◌, ◌<◌, ◌≢◌, ◌≤◌, Some};
+ghost use Rattle.domain.specs.Logarithm.{log_within};
+ghost use Rattle.progressions.specs.Fitting.{fitting};
+ghost use Rattle.progressions.specs.Progression.{made, placed, natural_of, or_one, term as term_at, terms, points_of, first_of, last_of, transition_of, following_of, beside_of, pieces_of};
 ghost use Rattle.progressions.specs.Laws.Progression.{progression_distinct, progression_doubled, progression_separate, progression_parted, progression_unparted};
 ghost use Rattle.std.proofs.Common.{rules};
 
 use crate::Progression;
 use domain::periodic::Periodic;
-use domain::powers;
 use domain::selectors::Selectors;
-use domain::traits::Domain;
+use domain::traits::{Domain, Points};
+use domain::{powers, products};
 use field::extension::Extension;
 use field::traits::{Field, PrimeField};
+use std::marker::PhantomData;
 
 // The largest b up to 10 with 2^b at most the number of elements.
+#[tactic(auto, using(crate::specs::Laws::Terms::fitting_is))]
 fn most_bits<F: PrimeField>() -> u32
-    ensures is { result ≡ fitting F.PrimeField.modulus 10 }
-    ensures small { result ≤ 10 }
+    ensures { result ≡ fitting F.PrimeField.modulus 10 }
 {
-    let order = F::order();
-    let mut bits: u32 = 10;
-    let mut size: u32 = 1024;
-    while bits > 0 {
-        if size <= order {
-            return bits;
-        }
-        bits -= 1;
-        size /= 2;
-    }
-    0
-}
-
-fn log_size<F: PrimeField, E: Copy>(d: Progression<F, E>) -> u32
-    ensures is { result ≡ bits_of (numbers F.Field F.PrimeField.own) d }
-    ensures small { result ≤ 10 }
-{
-    let most = most_bits::<F>();
-    if d.bits <= most { d.bits } else { most }
+    F::order().ilog2().min(10)
 }
 
 fn count<F: PrimeField, E: Copy>(d: Progression<F, E>) -> u32
-    ensures is { result ≡ 2 ^ bits_of (numbers F.Field F.PrimeField.own) d }
+    ensures is { result ≡ 2 ^ d.bits }
     ensures some { 0 < result }
-    ensures small { result ≤ 1024 }
+    ensures few { result ≤ 1024 }
 {
-    1 << log_size(d)
+    1 << d.bits
 }
 
-fn step<F: PrimeField, E: Copy>(d: Progression<F, E>) -> F
-    ensures { result ≡ step_of (numbers F.Field F.PrimeField.own) d }
+fn term<F: PrimeField, E: Copy>(d: Progression<F, E>, i: u32) -> F
+    ensures { result ≡ term_at F.Field.ops d.start d.step i }
 {
-    match d.step.inverse() {
-        None => F::one(),
-        Some(_) => d.step,
+    d.start + F::from_u32(i) * d.step
+}
+
+// A step that is not zero. Modulo 2 the step of every second point is zero, and the one point that is left needs none.
+fn stepped<F: Field>(step: F) -> F
+    ensures { result ≡ or_one F.Field.own step }
+{
+    if step == F::zero() { F::one() } else { step }
+}
+
+fn at<F: PrimeField, E: Copy>(start: F, step: F, bits: u32) -> Progression<F, E>
+    requires stepped { step ≢ F.Field.ops.zero }
+    requires fits { bits ≤ fitting F.PrimeField.modulus 10 }
+    ensures { Some result ≡ made start step bits }
+{
+    Progression {
+        start,
+        step,
+        bits,
+        above: PhantomData,
     }
 }
 
-fn term<F: PrimeField>(start: F, step: F, i: u32) -> F
-    ensures { result ≡ term_at F.Field.ops start step i }
+// Absent where the step is zero, or 2^bits points are more than 1,024 or more than F has.
+fn made<F: PrimeField, E: Copy>(start: F, step: F, bits: u32) -> Option<Progression<F, E>>
+    ensures { result ≡ made start step bits }
 {
-    start.add(F::from_u32(i).mul(step))
+    if step == F::zero() {
+        return None;
+    }
+    if bits > most_bits::<F>() {
+        return None;
+    }
+    Some(at(start, step, bits))
+}
+
+// The logarithm of a size that a progression can have.
+fn log_size<F: PrimeField>(size: usize) -> Option<u32>
+    ensures { result ≡ log_within (fitting F.PrimeField.modulus 10) size }
+{
+    powers::log_within(most_bits::<F>(), size)
 }
 
 // start + i * step, for i below the size. Absent where the step is zero, or the size is no power of two, above 1,024 or above F's.
@@ -70,144 +83,107 @@ pub fn progression<F: PrimeField, E: Extension<F>>(
     step: F,
     size: usize,
 ) -> Option<Progression<F, E>>
-    ensures value { result ≡ placed (numbers F.Field F.PrimeField.own) start step size }
-    ensures points { (d : Progression F E) → result ≡ Some d → points_of (numbers F.Field F.PrimeField.own) d ≡ terms F.Field.ops start step 0 size }
+    ensures value { result ≡ placed start step size }
+    ensures points { (d : _) → result ≡ Some d → points_of d ≡ terms F.Field.ops start step 0 size }
 {
-    checked(start, step, size)
-}
-
-fn checked<F: PrimeField, E: Extension<F>>(
-    start: F,
-    step: F,
-    size: usize,
-) -> Option<Progression<F, E>>
-    ensures { result ≡ placed (numbers F.Field F.PrimeField.own) start step size }
-{
-    let _inverse = step.inverse()?;
-    let bits = powers::log_within(most_bits::<F>(), size)?;
-    Some(Progression {
-        start,
-        step,
-        bits,
-        above: None,
-    })
+    let bits = log_size::<F>(size)?;
+    made(start, step, bits)
 }
 
 // 0, 1, 2 and so on, 2^bits points. Absent where these are more than 1,024 or more than F has.
 pub fn natural<F: PrimeField, E: Extension<F>>(bits: u32) -> Option<Progression<F, E>>
-    ensures { result ≡ natural_of (numbers F.Field F.PrimeField.own) bits }
+    ensures { result ≡ natural_of bits }
 {
-    if bits > most_bits::<F>() {
-        return None;
-    }
-    Some(Progression {
-        start: F::zero(),
-        step: F::one(),
-        bits,
-        above: None,
-    })
+    made(F::zero(), F::one(), bits)
 }
 
-// The product of z - p over the n terms p from number i on.
-fn product<F: PrimeField, E: Extension<F>>(start: F, step: F, i: u32, n: u32, z: E) -> E
-    requires n_bound { n ≤ 1024 }
-    requires i_bound { i ≤ 1024 }
-    ensures { result ≡ vanishing E.Field.ops (map E.Extension.embedded (terms F.Field.ops start step i n)) z }
+// 1 at the first point, and 0 at the others.
+fn first<F: PrimeField, E: Extension<F>>(d: Progression<F, E>, z: E) -> E
+    ensures { result ≡ first_of E.Field.own E.Extension.own d z }
 {
-    let mut value = E::one();
-    for j in 0..n {
-        value = value.mul(z.sub(E::embed(term(start, step, i + j))));
-    }
-    value
+    products::basis(d, E::embed(d.point(0)), 1, d.size(), z)
 }
 
-// The product of (z - p) / (a - p) over the n terms p from number i on.
-fn lagrange<F: PrimeField, E: Extension<F>>(start: F, step: F, a: u32, i: u32, n: u32, z: E) -> E
-    requires n_bound { n ≤ 1024 }
-    requires i_bound { i ≤ 1024 }
-    ensures { result ≡ basis E.Field.ops (total E.Field.ops E.Field.inverted) (E.Extension.embedded (term_at F.Field.ops start step a)) (map E.Extension.embedded (terms F.Field.ops start step i n)) z }
+// 1 at the last point, and 0 at the others.
+fn last<F: PrimeField, E: Extension<F>>(d: Progression<F, E>, z: E) -> E
+    ensures { result ≡ last_of E.Field.own E.Extension.own d z }
 {
-    let at = E::embed(term(start, step, a));
-    let mut value = E::one();
-    for j in 0..n {
-        let other = E::embed(term(start, step, i + j));
-        value = value.mul(powers::inverse_or_zero(at.sub(other)).mul(z.sub(other)));
-    }
-    value
+    let others = d.size() - 1;
+    products::basis(d, E::embed(d.point(others)), 0, others, z)
 }
 
-impl<F: PrimeField, E: Extension<F>> Domain for Progression<F, E> {
+impl<F: PrimeField, E: Extension<F>> Points for Progression<F, E> {
     type Base = F;
 
     type Ext = E;
 
-    ghost points = { points_of (numbers F.Field F.PrimeField.own) };
-
-    ghost scale = { λ _. F.Field.ops.one };
-
-    ghost first = { first_of (numbers F.Field F.PrimeField.own) E.Field.ops E.Field.inverted E.Extension.embedded };
-
-    ghost last = { last_of (numbers F.Field F.PrimeField.own) E.Field.ops E.Field.inverted E.Extension.embedded };
-
-    ghost transition = { transition_of (numbers F.Field F.PrimeField.own) E.Field.ops E.Field.inverted E.Extension.embedded };
-
-    ghost following = { following_of (numbers F.Field F.PrimeField.own) E.Field.ops E.Field.inverted E.Extension.embedded };
-
-    ghost beside = { beside_of (numbers F.Field F.PrimeField.own) };
-
-    ghost pieces = { pieces_of (numbers F.Field F.PrimeField.own) };
-
-    ghost degree = { 1 };
-
-    ghost distinct = { progression_distinct (numbers F.Field F.PrimeField.own) F.Field.laws F.PrimeField.numbered F.PrimeField.numbers };
-
-    ghost doubled = { progression_doubled (numbers F.Field F.PrimeField.own) F.Field.laws F.PrimeField.numbered F.PrimeField.numbers };
-
-    ghost scaled = { Prim.search rules };
-
-    ghost separate = { progression_separate (numbers F.Field F.PrimeField.own) F.Field.laws F.PrimeField.numbered F.PrimeField.numbers };
-
-    ghost parted = { progression_parted (numbers F.Field F.PrimeField.own) F.Field.laws F.PrimeField.numbered F.PrimeField.numbers };
-
-    ghost unparted = { progression_unparted (numbers F.Field F.PrimeField.own) F.Field.laws F.PrimeField.numbered F.PrimeField.numbers };
+    ghost points = { points_of };
 
     fn size(self) -> usize {
         count(self) as usize
-    }
-
-    fn first_point(self) -> F {
-        term(self.start, step(self), 0)
     }
 
     fn point(self, i: usize) -> F {
         if i >= self.size() {
             return F::zero();
         }
-        term(self.start, step(self), i as u32)
+        term(self, i as u32)
+    }
+}
+
+impl<F: PrimeField, E: Extension<F>> Domain for Progression<F, E> {
+    ghost scale = { λ _. F.Field.ops.one };
+
+    ghost first = { first_of E.Field.own E.Extension.own };
+
+    ghost last = { last_of E.Field.own E.Extension.own };
+
+    ghost transition = { transition_of E.Field.own E.Extension.own };
+
+    ghost following = { following_of E.Field.own E.Extension.own };
+
+    ghost beside = { beside_of };
+
+    ghost pieces = { pieces_of };
+
+    ghost degree = { 1 };
+
+    ghost distinct = { progression_distinct F.PrimeField.own F.Field.own F.PrimeField.numbers };
+
+    ghost doubled = { progression_doubled F.PrimeField.own F.Field.own F.PrimeField.numbers };
+
+    ghost scaled = { Prim.search rules };
+
+    ghost separate = { progression_separate F.PrimeField.own F.Field.own F.PrimeField.numbers };
+
+    ghost parted = { progression_parted F.PrimeField.own F.Field.own F.PrimeField.numbers };
+
+    ghost unparted = { progression_unparted F.PrimeField.own F.Field.own F.PrimeField.numbers };
+
+    fn first_point(self) -> F {
+        term(self, 0)
     }
 
     fn vanishing_at(self, z: E) -> E {
-        product(self.start, step(self), 0, count(self), z)
+        products::vanishing(self, 0, self.size(), z)
     }
 
     fn selectors_at(self, z: E) -> Option<Selectors<E>> {
         let inverse = self.vanishing_at(z).inverse()?;
-        let step = step(self);
-        let others = count(self) - 1;
-        let last = lagrange(self.start, step, others, 0, others, z);
+        let last = last(self, z);
         Some(Selectors {
-            first: lagrange(self.start, step, 0, 1, others, z),
+            first: first(self, z),
             last,
-            transition: E::one().sub(last),
+            transition: E::one() - last,
             inverse,
         })
     }
 
     fn next_point(self, z: E) -> Option<E> {
-        if log_size(self) == 0 {
+        if self.bits == 0 {
             return None;
         }
-        Some(z.add(E::embed(step(self))))
+        Some(z + E::embed(self.step))
     }
 
     fn disjoint(self, size: usize) -> Option<Self> {
@@ -216,28 +192,16 @@ impl<F: PrimeField, E: Extension<F>> Domain for Progression<F, E> {
         if own as usize + size > F::order() as usize {
             return None;
         }
-        let step = step(self);
-        Some(Progression {
-            start: term(self.start, step, own),
-            step,
-            bits,
-            above: self.above,
-        })
+        Some(at(term(self, own), self.step, bits))
     }
 
     fn piece(self, i: usize, k: usize) -> Option<Self> {
-        let bits = log_size(self);
-        let less = powers::log_within(bits, k)?;
+        let less = powers::log_within(self.bits, k)?;
         if i >= k {
             return None;
         }
-        let step = step(self);
-        Some(Progression {
-            start: term(self.start, step, i as u32),
-            step: F::from_u32(k as u32).mul(step),
-            bits: bits - less,
-            above: self.above,
-        })
+        let step = stepped(F::from_u32(k as u32) * self.step);
+        Some(at(term(self, i as u32), step, self.bits - less))
     }
 
     fn transition_degree() -> u32 {

@@ -3,13 +3,15 @@ use Rattle.std.proofs.Common.{◌≡◌, ℕ, min, Bool, true, false, cond, eqb,
 use Rattle.sponge.specs.Steps.{Steps, passing}
 use Rattle.transcript.specs.declared.shape.StarkShape.{StarkShape}
 use Rattle.transcript.specs.declared.failure.StarkTranscriptFailure.{StarkTranscriptFailure}
+use Rattle.transcript.specs.declared.failure.StarkTranscriptFailure.TheVariants.{MissingPreprocessedCommitment, UnexpectedPreprocessedCommitment}
 use Rattle.transcript.specs.Takes.{Draws, takes, commit, challenge, drawn}
 use Rattle.transcript.specs.Seed.{seed}
-use Rattle.transcript.specs.Phases.{least, preprocessed_fault, random_fault, constraint_outcome, constraint_sponge, prover_outcome, prover_sponge, verifier_outcome, verifier_sponge, accepted, tried, bound, committed, tested, witnessed}
+use Rattle.transcript.specs.Phases.{misplaced, least, preprocessed_fault, random_fault, constraint_outcome, constraint_sponge, prover_outcome, prover_sponge, verifier_outcome, verifier_sponge, with_witness, accepted, tried, bound, committed, tested, witnessed}
 use Rattle.transcript.specs.Schedule.{First, Second}
 use Rattle.transcript.proofs.Least.{least_passes}
 use Rattle.transcript.proofs.Scheduled.{alpha_scheduled, zeta_scheduled}
-use Rattle.rehearsal.specs.Runs.{Role, prover, verifier, Call, constraint, out_of_domain, opening, closing, finish, Bracket, closes, finishes, opens, goes_on, Stand, start, mid, ready, bracketed, stopped, halted, after_constraint, after_proving, after_checking, constrains, leaves_domain, call, calls, run}
+use Rattle.transcript.specs.Roles.{Role, prover, verifier}
+use Rattle.rehearsal.specs.Runs.{Call, constraint, out_of_domain, opening, closing, finish, Bracket, closes, finishes, opens, goes_on, Stand, start, mid, ready, bracketed, stopped, halted, after_constraint, after_ood, constrains, leaves_domain, call, calls, run}
 use Rattle.rehearsal.specs.Agreement.{PassedFirst, PassedSecond, Agree}
 
 -- a witness that a prover finds is one that a verifier accepts
@@ -54,15 +56,23 @@ module _ {S E : Type 0} (st : Steps S) (dr : Draws E) (sh : StarkShape) (s₀ : 
   Kept (stopped f s) = Unit {0}
   Kept (halted x a f s) = FirstOk x a
 
-  -- the constraint phase keeps it
-  constraint_keeps : (x : First) (s : S) (b : Bool) (f : Option StarkTranscriptFailure) → eqb (length x.public) sh.num_public_values ≡ b → preprocessed_fault sh x.preprocessed ≡ f → s ≡ seeded → Kept (after_constraint x (constraint_outcome b f (challenge st dr (bound st dr sh x s))) (constraint_sponge b f s (commit st x.trace s) (drawn st dr (bound st dr sh x s))))
-  constraint_keeps x s false f eb ef e = e
-  constraint_keeps x s true (Some f) eb ef e = tt
-  constraint_keeps x s true None eb ef e =
+  abbrev placing : Bool → Option ℕ → Option StarkTranscriptFailure
+  placing w o = misplaced w o (MissingPreprocessedCommitment sh.preprocessed_width) UnexpectedPreprocessedCommitment
+
+  passed_on : (x : First) (s : S) → eqb (length x.public) sh.num_public_values ≡ true → preprocessed_fault sh x.preprocessed ≡ None → s ≡ seeded → FirstOk x (challenge st dr (bound st dr sh x s)) × (drawn st dr (bound st dr sh x s) ≡ after_alpha x)
+  passed_on x s eb ef e =
       (record { counted = eb; placed = ef; draws = ap (λ t. challenge st dr (bound st dr sh x t)) e }, ap (λ t. drawn st dr (bound st dr sh x t)) e)
 
+  -- the constraint phase keeps it: a misplaced commitment is not the wrong public count
+  constraint_keeps : (x : First) (s : S) (b w : Bool) (o : Option ℕ) → eqb (length x.public) sh.num_public_values ≡ b → ltb 0 sh.preprocessed_width ≡ w → x.preprocessed ≡ o → s ≡ seeded → Kept (after_constraint x (constraint_outcome b (placing w o) (challenge st dr (bound st dr sh x s))) (constraint_sponge b (placing w o) s (commit st x.trace s) (drawn st dr (bound st dr sh x s))))
+  constraint_keeps x s false w o eb ew eo e = e
+  constraint_keeps x s true true None eb ew eo e = tt
+  constraint_keeps x s true false (Some c) eb ew eo e = tt
+  constraint_keeps x s true true (Some c) eb ew eo e = passed_on x s eb (ap₂ placing ew eo) e
+  constraint_keeps x s true false None eb ew eo e = passed_on x s eb (ap₂ placing ew eo) e
+
   constrains_kept : (x : First) (e : Stand S E) → Kept e → Kept (constrains st dr sh x e)
-  constrains_kept x (start s) k = constraint_keeps x s (eqb (length x.public) sh.num_public_values) (preprocessed_fault sh x.preprocessed) refl refl k
+  constrains_kept x (start s) k = constraint_keeps x s (eqb (length x.public) sh.num_public_values) (ltb 0 sh.preprocessed_width) x.preprocessed refl refl refl k
   constrains_kept x (mid x' a s) k = k
   constrains_kept x (ready x' a y z s) k = k
   constrains_kept x (bracketed x' a y z s b) k = k
@@ -78,14 +88,14 @@ module _ {S E : Type 0} (st : Steps S) (dr : Draws E) (sh : StarkShape) (s₀ : 
     leaves = ap (λ t. drawn st dr (tested st dr sh q r t w)) e;
   }
 
-  proving_keeps : (x : First) (a : E) (q : ℕ) (r : Option ℕ) (budget : ℕ) (s : S) (f : Option StarkTranscriptFailure) (o : Option ℕ) → random_fault sh r ≡ f → witnessed st dr sh q r budget s ≡ o → FirstOk x a → s ≡ after_alpha x → Kept (after_proving x a q r (prover_outcome f o (λ w. challenge st dr (tested st dr sh q r s w)) (tried sh.ood_pow_bits)) (prover_sponge f o (commit st q s) (committed st sh q r s) (λ w. drawn st dr (tested st dr sh q r s w))))
+  proving_keeps : (x : First) (a : E) (q : ℕ) (r : Option ℕ) (budget : ℕ) (s : S) (f : Option StarkTranscriptFailure) (o : Option ℕ) → random_fault sh r ≡ f → witnessed st dr sh q r budget s ≡ o → FirstOk x a → s ≡ after_alpha x → Kept (after_ood x a q r (prover_outcome f o (λ w. challenge st dr (tested st dr sh q r s w)) (tried sh.ood_pow_bits)) (prover_sponge f o (commit st q s) (committed st sh q r s) (λ w. drawn st dr (tested st dr sh q r s w))))
   proving_keeps x a q r budget s (Some f) o ef eo k e = k
   proving_keeps x a q r budget s None None ef eo k e = k
   proving_keeps x a q r budget s None (Some w) ef eo k e =
       let bits = sh.ood_pow_bits in
       (k, point q r w x s ef (found_accepted (λ v. passing st (committed st sh q r s) v bits) (min budget dr.order) w (ltb 0 bits) eo) e)
 
-  checking_keeps : (x : First) (a : E) (q : ℕ) (r : Option ℕ) (w : ℕ) (s : S) (f : Option StarkTranscriptFailure) (b : Bool) → random_fault sh r ≡ f → accepted st sh.ood_pow_bits (committed st sh q r s) w ≡ b → FirstOk x a → s ≡ after_alpha x → Kept (after_checking x a q r w (verifier_outcome f b sh.ood_pow_bits (challenge st dr (tested st dr sh q r s w))) (verifier_sponge f b (commit st q s) (tested st dr sh q r s w) (drawn st dr (tested st dr sh q r s w))))
+  checking_keeps : (x : First) (a : E) (q : ℕ) (r : Option ℕ) (w : ℕ) (s : S) (f : Option StarkTranscriptFailure) (b : Bool) → random_fault sh r ≡ f → accepted st sh.ood_pow_bits (committed st sh q r s) w ≡ b → FirstOk x a → s ≡ after_alpha x → Kept (after_ood x a q r (with_witness w (verifier_outcome f b sh.ood_pow_bits (challenge st dr (tested st dr sh q r s w)))) (verifier_sponge f b (commit st q s) (tested st dr sh q r s w) (drawn st dr (tested st dr sh q r s w))))
   checking_keeps x a q r w s (Some f) b ef eb k e = k
   checking_keeps x a q r w s None false ef eb k e = k
   checking_keeps x a q r w s None true ef eb k e = (k, point q r w x s ef eb e)
@@ -157,7 +167,7 @@ module _ {S E : Type 0} (st : Steps S) (dr : Draws E) (sh : StarkShape) (s₀ : 
 
   second_passes : (x : First) (a : E) (y : Second) (z : E) (s : S) → SecondOk x y z s → leaves_domain st dr sh verifier y.quotient y.random y.witness (mid x a (after_alpha x)) ≡ ready x a y z s
   second_passes x a y z s k =
-      ap₂ (λ f b. after_checking x a y.quotient y.random y.witness (verifier_outcome f b sh.ood_pow_bits (challenge st dr (before_zeta x y))) (verifier_sponge f b (commit st y.quotient (after_alpha x)) (before_zeta x y) (after_zeta x y))) k.placed k.passes ∙ ap₂ (λ c u. ready x a y c u) (sym k.draws) (sym k.leaves)
+      ap₂ (λ f b. after_ood x a y.quotient y.random (with_witness y.witness (verifier_outcome f b sh.ood_pow_bits (challenge st dr (before_zeta x y)))) (verifier_sponge f b (commit st y.quotient (after_alpha x)) (before_zeta x y) (after_zeta x y))) k.placed k.passes ∙ ap₂ (λ c u. ready x a y c u) (sym k.draws) (sym k.leaves)
 
   kept_agree : (p v : Stand S E) → Kept p → Kept v → Agree st dr sh s₀ p v
   kept_agree p v kp kv = record {

@@ -1,3 +1,2 @@
 pub mod Driving
-pub mod Proving
 pub mod Agreeing

@@ -4,7 +4,8 @@ use Rattle.sponge.specs.Steps.{Steps}
 use Rattle.transcript.specs.Takes.{Draws}
 use Rattle.transcript.specs.Schedule.{First, Second, schedule_alpha, schedule_zeta}
 use Rattle.transcript.specs.declared.shape.StarkShape.{StarkShape}
-use Rattle.rehearsal.specs.Runs.{Call, constraint, out_of_domain, prover, verifier, Stand, start, mid, ready, bracketed, stopped, halted, sponge_of, call, run}
+use Rattle.transcript.specs.Roles.{prover, verifier}
+use Rattle.rehearsal.specs.Runs.{Call, constraint, out_of_domain, Stand, start, mid, ready, bracketed, stopped, halted, sponge_of, call, run}
 use Rattle.rehearsal.specs.Driven.{standing}
 use Rattle.rehearsal.specs.declared.rehearse.Rehearsal.{Rehearsal}
 

@@ -4,16 +4,12 @@ use Rattle.sponge.specs.Steps.{Steps}
 use Rattle.transcript.specs.Takes.{Draws, takes}
 use Rattle.transcript.specs.Seed.{seed}
 use Rattle.transcript.specs.Schedule.{First, Second, second}
-use Rattle.transcript.specs.Phases.{constraint_answer, constraint_left, prover_answer, prover_left, verifier_answer, verifier_left}
+use Rattle.transcript.specs.Phases.{constraint_answer, constraint_left, ood_answer, ood_left}
+use Rattle.transcript.specs.Roles.{Role}
 use Rattle.transcript.specs.declared.shape.StarkShape.{StarkShape}
 use Rattle.transcript.specs.declared.failure.StarkTranscriptFailure.{StarkTranscriptFailure}
-use Rattle.transcript.specs.declared.phases.ConstraintOutcome.{ConstraintOutcome}
-use Rattle.transcript.specs.declared.phases.ConstraintOutcome.TheVariants.{Passed, Refused, Ended}
+use Rattle.transcript.specs.declared.failure.StarkTranscriptFailure.TheVariants.{PublicCount}
 use Rattle.transcript.specs.declared.phases.OodDraw.{OodDraw}
-
-pub data Role : Type 0 where
-  prover : Role
-  verifier : Role
 
 -- the calls of an end, with what a caller gives; the out-of-domain phase is given a prover's budget or a verifier's witness last
 pub data Call : Type 0 where
@@ -60,55 +56,34 @@ finishes finished = finished
 
 -- an answer of a phase, and the sponge that it left
 module _ {S E : Type 0} (x : First) where
-  abbrev pub after_constraint : ConstraintOutcome E → S → Stand S E
-  after_constraint (Passed alpha) s = mid x alpha s
-  after_constraint (Refused f) s = start s
-  after_constraint (Ended f) s = stopped f s
+  -- the wrong public count leaves the end in its start
+  abbrev pub after_constraint : Result E StarkTranscriptFailure → S → Stand S E
+  after_constraint (Ok alpha) s = mid x alpha s
+  after_constraint (Err PublicCount) s = start s
+  after_constraint (Err f) s = stopped f s
 
-  abbrev pub after_proving : E → ℕ → Option ℕ → Result (OodDraw E) StarkTranscriptFailure → S → Stand S E
-  after_proving alpha q r (Ok d) s = ready x alpha (second q r d.witness) d.zeta s
-  after_proving alpha q r (Err f) s = halted x alpha f s
-
-  abbrev pub after_checking : E → ℕ → Option ℕ → ℕ → Result E StarkTranscriptFailure → S → Stand S E
-  after_checking alpha q r w (Ok zeta) s = ready x alpha (second q r w) zeta s
-  after_checking alpha q r w (Err f) s = halted x alpha f s
+  abbrev pub after_ood : E → ℕ → Option ℕ → Result (OodDraw E) StarkTranscriptFailure → S → Stand S E
+  after_ood alpha q r (Ok d) s = ready x alpha (second q r d.witness) d.zeta s
+  after_ood alpha q r (Err f) s = halted x alpha f s
 
 -- the bracket and the finish, which leave the sponge; a call that the state of an end has not got changes nothing
 abbrev pub opens : {S E : Type 0} → Stand S E → Stand S E
-opens (start s) = start s
-opens (mid x a s) = mid x a s
 opens (ready x a y z s) = bracketed x a y z s opened
-opens (bracketed x a y z s b) = bracketed x a y z s b
-opens (stopped f s) = stopped f s
-opens (halted x a f s) = halted x a f s
+opens e = e
 
 abbrev pub goes_on : {S E : Type 0} → (Bracket → Bracket) → Stand S E → Stand S E
-goes_on g (start s) = start s
-goes_on g (mid x a s) = mid x a s
-goes_on g (ready x a y z s) = ready x a y z s
 goes_on g (bracketed x a y z s b) = bracketed x a y z s (g b)
-goes_on g (stopped f s) = stopped f s
-goes_on g (halted x a f s) = halted x a f s
+goes_on g e = e
 
 module _ {S E : Type 0} (st : Steps S) (dr : Draws E) (sh : StarkShape) where
-  -- the constraint phase, the same for both
   abbrev pub constrains : First → Stand S E → Stand S E
   constrains x (start s) = after_constraint x (constraint_answer st dr sh x s) (constraint_left st dr sh x s)
-  constrains x (mid x' a s) = mid x' a s
-  constrains x (ready x' a y z s) = ready x' a y z s
-  constrains x (bracketed x' a y z s b) = bracketed x' a y z s b
-  constrains x (stopped f s) = stopped f s
-  constrains x (halted x' a f s) = halted x' a f s
+  constrains x e = e
 
   -- the out-of-domain phase of a prover with a budget n, and of a verifier with a witness n
   abbrev pub leaves_domain : Role → ℕ → Option ℕ → ℕ → Stand S E → Stand S E
-  leaves_domain role q r n (start s) = start s
-  leaves_domain prover q r n (mid x a s) = after_proving x a q r (prover_answer st dr sh q r n s) (prover_left st dr sh q r n s)
-  leaves_domain verifier q r n (mid x a s) = after_checking x a q r n (verifier_answer st dr sh q r n s) (verifier_left st dr sh q r n s)
-  leaves_domain role q r n (ready x a y z s) = ready x a y z s
-  leaves_domain role q r n (bracketed x a y z s b) = bracketed x a y z s b
-  leaves_domain role q r n (stopped f s) = stopped f s
-  leaves_domain role q r n (halted x a f s) = halted x a f s
+  leaves_domain role q r n (mid x a s) = after_ood x a q r (ood_answer st dr sh role q r n s) (ood_left st dr sh role q r n s)
+  leaves_domain role q r n e = e
 
   abbrev pub call : Role → Call → Stand S E → Stand S E
   call role (constraint x) e = constrains x e

@@ -1,8 +1,7 @@
 // Both ends driven over lists of requests.
 #![tactic(auto)]
 
-mod prover_run;
 pub mod rehearse;
 pub mod request;
+mod run;
 pub mod standing;
-mod verifier_run;

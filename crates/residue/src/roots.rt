@@ -1,4 +1,5 @@
 // A generator of each of the two fields: 3 modulo 17, and 31 modulo 15 * 2^27 + 1.
+// Not one impl for every P: a prime has a generator of its own, and a trait that gives it would be TwoAdic once more.
 ghost use Rattle.residue.specs.Laws.TwoAdic.{three, thirty_one, seventeens_adic, residues_adic};
 
 use crate::moduli::{BabyBear, Seventeen};
@@ -24,6 +25,7 @@ impl TwoAdic for Seventeen {
         3
     }
 
+    #[tactic(auto, using(crate::specs::Moduli::seventeens_nat))]
     fn generator() -> Self {
         Seventeen::from_u32(3)
     }
@@ -52,6 +54,7 @@ impl TwoAdic for BabyBear {
         27
     }
 
+    #[tactic(auto, using(crate::specs::Moduli::residues_nat))]
     fn generator() -> Self {
         BabyBear::from_u32(31)
     }

@@ -1,7 +1,7 @@
 -- The rolling sponge: taking n turns s into 1664525 s + n + 1013904223 modulo 2^32. Assumes nothing.
 use Rattle.std.specs.Prelude.{ℕ, ◌+◌, ◌*◌, ◌%◌, ◌^◌}
 use Rattle.sponge.specs.Steps.{Steps}
-use Rattle.sponge.specs.declared.Rolling.{Rolling}
+use Rattle.sponge.specs.declared.rolling.Rolling.{Rolling}
 
 abbrev pub rolled : Rolling → ℕ → Rolling
 rolled x n = record { s = (1664525 * x.s + n + 1013904223) % 2 ^ 32 }

@@ -3,9 +3,10 @@ use field::traits::PrimeField;
 use pair::Pair;
 use rehearsal::rehearse::rehearse;
 use rehearsal::request::Request;
-use rehearsal::standing::Standing;
+use rehearsal::standing::{Drawn, Standing};
 use residue::moduli::BabyBear;
 use sponge::Duplex;
+use transcript::input::{ConstraintInput, OodInput};
 use transcript::shape::StarkShape;
 
 // Columns 0 to 8 for the trace, and columns 9 and 10 for one chunk, as first column * 256 + count.
@@ -14,6 +15,7 @@ const TRACE: u64 = 9;
 const QUOTIENT: u64 = 2306;
 
 // The station AIR on 2^6 rows: nine columns, two public values, a next row, one chunk.
+// Written out, with no default: the seed binds each of the numbers.
 fn station_shape() -> StarkShape {
     StarkShape {
         log_ext_degree: 6,
@@ -30,19 +32,18 @@ fn station_shape() -> StarkShape {
     }
 }
 
-fn requests() -> [Request; 5] {
+fn requests(public_values: &[BabyBear]) -> [Request<'_, BabyBear>; 5] {
     [
-        Request::Constraint {
+        Request::Constraint(ConstraintInput {
             trace: TRACE,
             preprocessed: None,
-            from: 0,
-            count: 2,
-        },
-        Request::OutOfDomain {
+            public_values,
+        }),
+        Request::OutOfDomain(OodInput {
             quotient: QUOTIENT,
             random: None,
             last: 0,
-        },
+        }),
         Request::Begin,
         Request::End,
         Request::Finish,
@@ -50,31 +51,31 @@ fn requests() -> [Request; 5] {
 }
 
 pub(crate) fn tell_rehearsal(rt: &HostRuntime, rows: &[u32]) -> anyhow::Result<()> {
-    if rows.is_empty() {
+    let (Some(first), Some(last)) = (rows.first(), rows.last()) else {
         return Ok(());
-    }
-    if let Some(first) = BabyBear::from_number(rows[0]) {
-        if let Some(last) = BabyBear::from_number(rows[rows.len() - 1]) {
-            return rehearse_ends(rt, first, last);
+    };
+    match (BabyBear::from_number(*first), BabyBear::from_number(*last)) {
+        (Some(first), Some(last)) => rehearse_ends(rt, &[first, last]),
+        _ => {
+            println!(rt;
+                "no rehearsal: a public value is not below {}",
+                BabyBear::order()
+            )?;
+            Ok(())
         }
     }
-    println!(rt;
-        "no rehearsal: a public value is not below {}",
-        BabyBear::order()
-    )?;
-    Ok(())
 }
 
-fn rehearse_ends(rt: &HostRuntime, first: BabyBear, last: BabyBear) -> anyhow::Result<()> {
+fn rehearse_ends(rt: &HostRuntime, public_values: &[BabyBear]) -> anyhow::Result<()> {
     let mut prover = Duplex::new();
     let mut verifier = Duplex::new();
+    let requests = requests(public_values);
     let both = rehearse::<Duplex, BabyBear, Pair<BabyBear>>(
         &mut prover,
         &mut verifier,
         station_shape(),
-        &requests(),
-        &requests(),
-        &[first, last],
+        &requests,
+        &requests,
     );
     tell_end(rt, "prover", both.prover)?;
     tell_end(rt, "verifier", both.verifier)
@@ -82,14 +83,8 @@ fn rehearse_ends(rt: &HostRuntime, first: BabyBear, last: BabyBear) -> anyhow::R
 
 fn tell_end(rt: &HostRuntime, name: &str, end: Standing<Pair<BabyBear>>) -> anyhow::Result<()> {
     match end {
-        Standing::Done(alpha, zeta, _) => {
-            println!(rt;
-                "{name}: alpha ({}, {}), zeta ({}, {})",
-                alpha.base.number(),
-                alpha.root.number(),
-                zeta.base.number(),
-                zeta.root.number()
-            )?;
+        Standing::Done(Drawn { alpha, zeta, .. }) => {
+            println!(rt; "{name}: alpha {alpha}, zeta {zeta}")?;
         }
         _ => println!(rt; "{name}: did not finish")?,
     }

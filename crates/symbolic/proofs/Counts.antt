@@ -1,7 +1,8 @@
 -- What the degree counter holds once an AIR's constraints were asserted. Assumes nothing.
 use Rattle.std.proofs.Common.{◌≡◌, ℕ, ◌+◌, min, max, List, [], ◌∷◌, refl, ap, ◌∙◌, ap₂}
 use Rattle.expression.specs.Degree.{degree, largest_degree, leaf_degree}
-use Rattle.expression.specs.Expression.{Leaf, Expression, leaf, sum, difference, product, meaning, asserted}
+use Rattle.expression.specs.declared.Leaf.{Leaf}
+use Rattle.expression.specs.Expression.{Expression, leaf, sum, difference, product, meaning, asserted}
 use Rattle.symbolic.specs.Degrees.{counted, degree_operations, of_degree}
 use Rattle.symbolic.specs.declared.Degree.{Degree}
 

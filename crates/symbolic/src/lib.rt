@@ -8,11 +8,12 @@ ghost use Rattle.symbolic.specs.Chunks.{RoundedUp, chunks_needed, log_chunks, lo
 ghost use Rattle.std.proofs.Common.{rules};
 
 use air::builder::{Air, AirBuilder, Algebra, Rows};
+use expression::Leaf;
 use field::traits::Field;
 use std::ops::{Add, Mul, Sub};
 
 // A degree, which stops at 4294967295.
-#[derive(Clone, Copy)]
+#[derive(Clone, Copy, PartialEq, Eq, PartialOrd, Ord)]
 pub struct Degree {
     value: u32,
 }
@@ -23,21 +24,18 @@ impl Add<Degree> for Degree {
     ghost add_gives = { λ a b r. r ≡ larger a b };
 
     fn add(self, rhs: Degree) -> Degree {
-        Degree {
-            value: self.value.max(rhs.value),
-        }
+        self.max(rhs)
     }
 }
 
 impl Sub<Degree> for Degree {
     type Output = Degree;
 
+    // A difference has the degree of a sum; the two are traits of std, each with its own block.
     ghost sub_gives = { λ a b r. r ≡ larger a b };
 
     fn sub(self, rhs: Degree) -> Degree {
-        Degree {
-            value: self.value.max(rhs.value),
-        }
+        self.max(rhs)
     }
 }
 
@@ -80,46 +78,19 @@ impl Rows for DegreeRows {
 
     ghost reads = { λ s l. of_degree (leaf_degree s.transition l) };
 
-    fn main(&self, _column: usize) -> Degree {
-        Degree { value: 1 }
-    }
-
-    fn main_next(&self, _column: usize) -> Degree {
-        Degree { value: 1 }
-    }
-
-    fn preprocessed(&self, _column: usize) -> Degree {
-        Degree { value: 1 }
-    }
-
-    fn preprocessed_next(&self, _column: usize) -> Degree {
-        Degree { value: 1 }
-    }
-
-    fn public_value(&self, _index: usize) -> Degree {
-        Degree { value: 0 }
-    }
-
-    fn periodic_value(&self, _column: usize) -> Degree {
-        Degree { value: 1 }
-    }
-
-    fn is_first_row(&self) -> Degree {
-        Degree { value: 1 }
-    }
-
-    fn is_last_row(&self) -> Degree {
-        Degree { value: 1 }
-    }
-
-    fn is_transition(&self) -> Degree {
-        Degree {
-            value: self.transition,
-        }
-    }
-
-    fn number(&self, _n: u32) -> Degree {
-        Degree { value: 0 }
+    fn read(&self, leaf: Leaf) -> Degree {
+        let value = match leaf {
+            Leaf::Main(_)
+            | Leaf::MainNext(_)
+            | Leaf::Preprocessed(_)
+            | Leaf::PreprocessedNext(_)
+            | Leaf::Periodic(_)
+            | Leaf::IsFirst
+            | Leaf::IsLast => 1,
+            Leaf::IsTransition => self.transition,
+            Leaf::Public(_) | Leaf::Number(_) => 0,
+        };
+        Degree { value }
     }
 }
 
@@ -133,7 +104,7 @@ impl AirBuilder<Degree> for DegreeCounter {
     ghost step = { counted };
 
     fn assert_zero(&mut self, x: Degree) {
-        self.largest = self.largest + x;
+        self.largest = self.largest.max(x);
     }
 }
 
@@ -167,13 +138,9 @@ pub fn log2_ceil(n: u64) -> usize
 fn chunks_needed<F: Field, A: Air<F>>(air: &A, transition: u32, is_zk: bool) -> u64
     ensures value { result ≡ chunks_needed (A.declared air.now) transition is_zk (A.constraints air.now) }
 {
-    let declared = match air.layout().max_constraint_degree {
-        Some(degree) => degree,
-        None => 0,
-    };
-    let degree = constraint_degree(air, transition).max(declared) as u64;
-    let zk = if is_zk { 1 } else { 0 };
-    (degree + zk).max(2) - 1
+    let declared = air.layout().max_constraint_degree.unwrap_or(0);
+    let degree = u64::from(constraint_degree(air, transition).max(declared));
+    (degree + u64::from(is_zk)).max(2) - 1
 }
 
 // The rounded-up logarithm of the number of chunks that the quotient takes, where the transition selector has the degree given.

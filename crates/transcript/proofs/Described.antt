@@ -1,14 +1,16 @@
 -- The description taken step by step. Assumes nothing.
-use Rattle.std.proofs.Common.{◌≡◌, ℕ, ◌+◌, ◌*◌, ◌≤◌, Bool, true, false, cond, eqb, ltb, List, [], ◌∷◌, ◌++◌, length, sym, refl, arith}
-use mir.Val.{bool_byte}
+use Rattle.std.proofs.Common.{◌≡◌, ℕ, suc, ◌+◌, ◌*◌, ◌<◌, Bool, true, false, cond, eqb, ltb, List, filter, [], ◌∷◌, ◌++◌, length, get_or, take, count_by, Some, None, Option, sym, refl, ap, ◌∙◌, append_assoc, arith}
+use Rattle.std.specs.Option.{is_some}
+use Rattle.std.proofs.lemmas.List.{take_more, append-nil, length-take-le}
+use Rattle.std.proofs.lemmas.List.Concat.{flat_map-append}
 use Rattle.sponge.specs.Steps.{Steps}
 use Rattle.transcript.specs.declared.shape.StarkShape.{StarkShape}
 use Rattle.transcript.specs.Takes.{takes, be8}
-use Rattle.transcript.specs.Seed.{kept, bit, part, step_bytes, name_bytes, counted_steps, number_bytes, instance, codes, seed, SeedLengths}
+use Rattle.transcript.specs.Seed.{all_codes, part, step_lengths, step_bytes, name_bytes, counted_steps, number_bytes, instance, codes, seed, SeedLengths}
 use Rattle.transcript.proofs.Taking.{takes-++}
 
 abbrev pub codes_of : Bool → Bool → Bool → List ℕ
-codes_of p z g = kept (λ k. cond (eqb k 2) p (cond (eqb k 6) z (cond (eqb k 7) g true))) (1 ∷ (2 ∷ (3 ∷ (4 ∷ (5 ∷ (6 ∷ (7 ∷ (8 ∷ (9 ∷ (10 ∷ []))))))))))
+codes_of p z g = filter (λ k. cond (eqb k 2) p (cond (eqb k 6) z (cond (eqb k 7) g true))) all_codes
 
 abbrev seed_of : StarkShape → List ℕ → List ℕ
 seed_of sh ks = (1 ∷ be8 12) ++ (name_bytes ++ ((be8 (length ks) ++ step_bytes sh ks) ++ (be8 8 ++ number_bytes (instance sh))))
@@ -31,49 +33,76 @@ lengths = record {
   ten = (refl, refl);
 }
 
-codes_length : (p z g : Bool) → length (codes_of p z g) ≡ 7 + bool_byte p + bool_byte z + bool_byte g
-codes_length true true true = refl
-codes_length true true false = refl
-codes_length true false true = refl
-codes_length true false false = refl
-codes_length false true true = refl
-codes_length false true false = refl
-codes_length false false true = refl
-codes_length false false false = refl
+-- the description step by step, from code k on
+abbrev pub parts : ℕ → List (Option ℕ) → List ℕ
+parts k [] = []
+parts k (n ∷ ns) = part k n ++ parts (k + 1) ns
 
-at_most_one : (b : Bool) → bool_byte b ≤ 1
-at_most_one true = omega arith
-at_most_one false = omega arith
+-- the lengths, written out by the three steps that a shape may have
+abbrev lengths_by : Bool → Bool → Bool → ℕ → ℕ → List (Option ℕ)
+lengths_by p z g n b =
+    Some 1 ∷ (cond p (Some 1) None ∷ (Some n ∷ (Some 1 ∷ (Some 1 ∷ (cond z (Some 1) None ∷ (cond g (Some b) None ∷ (Some 1 ∷ (Some 0 ∷ (Some 0 ∷ [])))))))))
 
-pub at_most_ten : (p z g : Bool) → 7 + bool_byte p + bool_byte z + bool_byte g ≤ 10
-at_most_ten p z g =
-    let a = at_most_one p in
-    let b = at_most_one z in
-    let c = at_most_one g in
-    omega arith
+counted : (p z g : Bool) (n b : ℕ) → count_by is_some (lengths_by p z g n b) ≡ length (codes_of p z g)
+counted true true true n b = refl
+counted true true false n b = refl
+counted true false true n b = refl
+counted true false false n b = refl
+counted false true true n b = refl
+counted false true false n b = refl
+counted false false true n b = refl
+counted false false false n b = refl
 
-pub steps_count : (sh : StarkShape) → length (codes sh) ≡ 7 + bool_byte (ltb 0 sh.preprocessed_width) + bool_byte sh.has_randomization + bool_byte (ltb 0 sh.ood_pow_bits)
-steps_count sh = codes_length (ltb 0 sh.preprocessed_width) sh.has_randomization (ltb 0 sh.ood_pow_bits)
+pub ten_lengths : (sh : StarkShape) → length (step_lengths sh) ≡ 10
+unfolding step_lengths
+ten_lengths sh = refl
+
+-- the steps that the shape has are those with a length
+pub steps_counted : (sh : StarkShape) → count_by is_some (step_lengths sh) ≡ length (codes sh)
+unfolding step_lengths
+steps_counted sh =
+    counted (ltb 0 sh.preprocessed_width) sh.has_randomization (ltb 0 sh.ood_pow_bits) sh.num_public_values sh.ood_pow_bits
+
+module _ (sh : StarkShape) where
+  by_parts : (p z g : Bool) → parts 1 (lengths_by p z g sh.num_public_values sh.ood_pow_bits) ≡ step_bytes sh (codes_of p z g)
+  by_parts true true true = refl
+  by_parts true true false = refl
+  by_parts true false true = refl
+  by_parts true false false = refl
+  by_parts false true true = refl
+  by_parts false true false = refl
+  by_parts false false true = refl
+  by_parts false false false = refl
+
+  pub described : parts 1 (step_lengths sh) ≡ step_bytes sh (codes sh)
+  unfolding step_lengths
+  described = by_parts (ltb 0 sh.preprocessed_width) sh.has_randomization (ltb 0 sh.ood_pow_bits)
+
+parts-++ : (k : ℕ) (ns : List (Option ℕ)) (n : Option ℕ) → parts k (ns ++ (n ∷ [])) ≡ parts k ns ++ part (length ns + k) n
+parts-++ k [] n =
+    let at : k ≡ 0 + k = omega arith in
+    append-nil (part k n) ∙ ap (λ j. part j n) at
+parts-++ k (m ∷ ns) n =
+    let at : length ns + (k + 1) ≡ suc (length ns) + k = omega arith in
+    ap (λ bs. part k m ++ bs) (parts-++ (k + 1) ns n ∙ ap (λ j. parts (k + 1) ns ++ part j n) at) ∙ sym (append_assoc (part k m) (parts (k + 1) ns) (part (suc (length ns) + k) n))
+
+-- one step more, and one number more
+module _ {S : Type 0} (st : Steps S) (s : S) (i : ℕ) where
+  pub parts_more : (ns : List (Option ℕ)) (d : Option ℕ) → i < length ns → takes st (parts 1 (take (i + 1) ns)) s ≡ takes st (part (i + 1) (get_or ns i d)) (takes st (parts 1 (take i ns)) s)
+  parts_more ns d within =
+      let n = get_or ns i d in
+      let at : length (take i ns) + 1 ≡ i + 1 = ap (λ j. j + 1) (length-take-le i ns (omega arith)) in
+      ap (λ ms. takes st (parts 1 ms) s) (take_more ns i d within)
+      ∙ ap (λ bs. takes st bs s) (parts-++ 1 (take i ns) n ∙ ap (λ j. parts 1 (take i ns) ++ part j n) at)
+      ∙ takes-++ st (parts 1 (take i ns)) (part (i + 1) n) s
+
+  pub numbers_more : (ns : List ℕ) → i < length ns → takes st (number_bytes (take (i + 1) ns)) s ≡ takes st (be8 (get_or ns i 0)) (takes st (number_bytes (take i ns)) s)
+  numbers_more ns within =
+      ap (λ ms. takes st (number_bytes ms) s) (take_more ns i 0 within)
+      ∙ ap (λ bs. takes st bs s) (flat_map-append be8 (take i ns) (get_or ns i 0 ∷ []))
+      ∙ takes-++ st (number_bytes (take i ns)) (be8 (get_or ns i 0)) s
 
 module _ {S : Type 0} (st : Steps S) (sh : StarkShape) (s : S) where
-  abbrev pub last_six : Bool → Bool → S → S
-  last_six z g t =
-      takes st (part true 10 0) (takes st (part true 9 0) (takes st (part true 8 1) (takes st (part g 7 sh.ood_pow_bits) (takes st (part z 6 1) t))))
-
-  abbrev pub all_steps : Bool → Bool → Bool → S
-  all_steps p z g =
-      last_six z g (takes st (part true 5 1) (takes st (part true 4 1) (takes st (part true 3 sh.num_public_values) (takes st (part p 2 1) (takes st (part true 1 1) (takes st (be8 (7 + bit p + bit z + bit g)) s))))))
-
-  pub described : (p z g : Bool) → all_steps p z g ≡ takes st (be8 (length (codes_of p z g)) ++ step_bytes sh (codes_of p z g)) s
-  described true true true = refl
-  described true true false = refl
-  described true false true = refl
-  described true false false = refl
-  described false true true = refl
-  described false true false = refl
-  described false false true = refl
-  described false false false = refl
-
   pub seeded : takes st (number_bytes (instance sh)) (takes st (be8 8) (takes st (counted_steps sh) (takes st name_bytes (takes st (be8 12) (st.taken s 1))))) ≡ takes st (seed sh) s
   unfolding seed
   seeded =

@@ -1,23 +1,15 @@
 -- A challenge made word by word. Assumes nothing.
 use Rattle.std.proofs.Common.{◌≡◌, ℕ, zero, suc, ◌+◌, ◌%◌, List, [], ◌∷◌, ◌++◌, map, length, sym, refl, ap, ◌∙◌, add-one, arith}
+use Rattle.std.proofs.lemmas.List.{map-append, length-append, length-map}
 use Rattle.algebra.specs.Ring.{RingOps, RingLaws, nat}
 use Rattle.field.specs.Extension.{combined_from}
 use Rattle.sponge.specs.Steps.{Steps}
 use Rattle.transcript.specs.Takes.{after, words, over}
-use Rattle.transcript.proofs.Taking.{map-++}
-
-length_more : {A : Type 0} (xs : List A) (x : A) → length (xs ++ (x ∷ [])) ≡ suc (length xs)
-length_more [] x = refl
-length_more (y ∷ xs) x = ap suc (length_more xs x)
-
-length_of_map : {A B : Type 0} (f : A → B) (xs : List A) → length (map f xs) ≡ length xs
-length_of_map f [] = refl
-length_of_map f (x ∷ xs) = ap suc (length_of_map f xs)
 
 module _ {S : Type 0} (st : Steps S) where
   pub words_length : (n : ℕ) (s : S) → length (words st n s) ≡ n
   words_length zero s = refl
-  words_length (suc n) s = length_more (words st n s) (st.word (after st n s)) ∙ ap suc (words_length n s)
+  words_length (suc n) s = length-append (words st n s) (st.word (after st n s) ∷ []) ∙ omega (arith, words_length n s)
 
 module _ {E : Type 0} {o : RingOps E} (laws : RingLaws o) (basis : ℕ → E) where
   open o use {zero as none, add, mul}
@@ -38,5 +30,5 @@ module _ {E : Type 0} {o : RingOps E} (laws : RingLaws o) (basis : ℕ → E) wh
   one_more st p d n s =
       let ws = words st n s in
       let f = λ (w : ℕ). nat o (w % p) in
-      let at : length (map f ws) + 0 ≡ n = ap (λ m. m + 0) (length_of_map f ws ∙ words_length st n s) ∙ omega arith in
-      ap (λ m. (over p o d basis).of (words st m s)) (add-one n) ∙ ap (combined_from o basis 0) (map-++ f ws (st.word (after st n s) ∷ [])) ∙ combined_more 0 (map f ws) (f (st.word (after st n s))) ∙ ap (λ m. add ((over p o d basis).of ws) (mul (f (st.word (after st n s))) (basis m))) at
+      let at : length (map f ws) + 0 ≡ n = ap (λ m. m + 0) (length-map ws f ∙ words_length st n s) ∙ omega arith in
+      ap (λ m. (over p o d basis).of (words st m s)) (add-one n) ∙ ap (combined_from o basis 0) (map-append f ws (st.word (after st n s) ∷ [])) ∙ combined_more 0 (map f ws) (f (st.word (after st n s))) ∙ ap (λ m. add ((over p o d basis).of ws) (mul (f (st.word (after st n s))) (basis m))) at

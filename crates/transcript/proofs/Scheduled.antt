@@ -1,11 +1,11 @@
 -- The phases that pass draw the schedule's challenges. Assumes nothing.
-use Rattle.std.proofs.Common.{◌≡◌, ℕ, Bool, true, false, cond, ltb, List, Some, None, Option, refl, ap}
+use Rattle.std.proofs.Common.{◌≡◌, ℕ, Bool, true, false, cond, ltb, List, filter, Some, None, Option, refl, ap}
 use Rattle.sponge.specs.Steps.{Steps, checked}
 use Rattle.transcript.specs.declared.shape.StarkShape.{StarkShape}
 use Rattle.transcript.specs.declared.failure.StarkTranscriptFailure.{StarkTranscriptFailure}
 use Rattle.transcript.specs.declared.failure.StarkTranscriptFailure.TheVariants.{MissingPreprocessedCommitment, UnexpectedPreprocessedCommitment, MissingRandomCommitment, UnexpectedRandomCommitment}
 use Rattle.transcript.specs.Takes.{Draws, takes, commit, commit_if, challenge, drawn}
-use Rattle.transcript.specs.Seed.{kept, seed}
+use Rattle.transcript.specs.Seed.{seed}
 use Rattle.transcript.specs.Phases.{misplaced, preprocessed_fault, random_fault, bound, tested}
 use Rattle.transcript.specs.Schedule.{First, Second, first, second, plays, schedule_alpha, schedule_zeta}
 use Rattle.transcript.proofs.Described.{codes_of}
@@ -13,7 +13,7 @@ use Rattle.transcript.proofs.Least.{some_none}
 
 -- the steps of the schedule written out, for each of the steps that a shape may have
 module _ {S E : Type 0} (st : Steps S) (dr : Draws E) (m u m' u' : StarkTranscriptFailure) (t : ℕ) (xs : List ℕ) (q w : ℕ) (s : S) where
-  to_alpha : (p : Bool) (o : Option ℕ) (z g : Bool) (y : Second) → misplaced p o m u ≡ None → takes st xs (commit_if st p o (commit st t s)) ≡ plays st dr (first t o xs) y (kept (λ k. ltb k 4) (codes_of p z g)) s
+  to_alpha : (p : Bool) (o : Option ℕ) (z g : Bool) (y : Second) → misplaced p o m u ≡ None → takes st xs (commit_if st p o (commit st t s)) ≡ plays st dr (first t o xs) y (filter (λ k. ltb k 4) (codes_of p z g)) s
   to_alpha true (Some c) true true y e = refl
   to_alpha true (Some c) true false y e = refl
   to_alpha true (Some c) false true y e = refl
@@ -31,7 +31,7 @@ module _ {S E : Type 0} (st : Steps S) (dr : Draws E) (m u m' u' : StarkTranscri
   abbrev before_check : Bool → Option ℕ → Bool → Option ℕ → S
   before_check p o z r = commit_if st z r (commit st q (after_alpha p o))
 
-  to_zeta : (p : Bool) (o : Option ℕ) (z : Bool) (r : Option ℕ) (g : Bool) → misplaced p o m u ≡ None → misplaced z r m' u' ≡ None → cond g (checked st (before_check p o z r) w) (before_check p o z r) ≡ plays st dr (first t o xs) (second q r w) (kept (λ k. ltb k 8) (codes_of p z g)) s
+  to_zeta : (p : Bool) (o : Option ℕ) (z : Bool) (r : Option ℕ) (g : Bool) → misplaced p o m u ≡ None → misplaced z r m' u' ≡ None → cond g (checked st (before_check p o z r) w) (before_check p o z r) ≡ plays st dr (first t o xs) (second q r w) (filter (λ k. ltb k 8) (codes_of p z g)) s
   to_zeta true (Some c) true (Some d) true e f = refl
   to_zeta true (Some c) true (Some d) false e f = refl
   to_zeta true (Some c) true None g e f = some_none m' f

@@ -1,3 +1,4 @@
+pub mod Roles
 pub mod Takes
 pub mod Seed
 pub mod Failures

@@ -1,14 +1,14 @@
 -- What each phase answers, and the sponge that it leaves. Assumes nothing.
-use Rattle.std.specs.Prelude.{ℕ, zero, suc, ◌+◌, ◌<◌, min, Bool, true, false, cond, length, Some, None, Ok, Err, Option, Result, ◌==◌, nat_lt}
+use Rattle.std.specs.Prelude.{ℕ, zero, suc, ◌+◌, ◌<◌, min, Bool, true, false, cond, length, Some, None, Ok, Err, Option, Result, ⊤, ◌==◌, nat_lt}
 use Rattle.sponge.specs.Steps.{Steps, passing, checked}
+use Rattle.transcript.specs.Roles.{Role, prover, verifier}
 use Rattle.transcript.specs.Takes.{Draws, takes, commit, commit_if, challenge, drawn}
 use Rattle.transcript.specs.Schedule.{First}
 use Rattle.transcript.specs.declared.shape.StarkShape.{StarkShape}
 use Rattle.transcript.specs.declared.failure.StarkTranscriptFailure.{StarkTranscriptFailure}
 use Rattle.transcript.specs.declared.failure.StarkTranscriptFailure.TheVariants.{MissingPreprocessedCommitment, UnexpectedPreprocessedCommitment, MissingRandomCommitment, UnexpectedRandomCommitment, OodPowWitness, PublicCount, GrindBudgetSpent}
-use Rattle.transcript.specs.declared.phases.ConstraintOutcome.{ConstraintOutcome}
-use Rattle.transcript.specs.declared.phases.ConstraintOutcome.TheVariants.{Passed, Refused, Ended}
 use Rattle.transcript.specs.declared.phases.OodDraw.{OodDraw}
+use Rattle.transcript.specs.declared.role.Ground.{Ground}
 
 -- a commitment that is missing, or that came for a step that the run does not describe
 abbrev pub misplaced : Bool → Option ℕ → StarkTranscriptFailure → StarkTranscriptFailure → Option StarkTranscriptFailure
@@ -16,6 +16,11 @@ misplaced true (Some c) missing unexpected = None
 misplaced true None missing unexpected = Some missing
 misplaced false (Some c) missing unexpected = Some unexpected
 misplaced false None missing unexpected = None
+
+-- a step that is refused for a fault, where there is one
+abbrev pub unless : Option StarkTranscriptFailure → Result ⊤ StarkTranscriptFailure
+unless None = Ok tt
+unless (Some f) = Err f
 
 abbrev pub preprocessed_fault : StarkShape → Option ℕ → Option StarkTranscriptFailure
 preprocessed_fault sh p = misplaced (nat_lt 0 sh.preprocessed_width) p (MissingPreprocessedCommitment sh.preprocessed_width) UnexpectedPreprocessedCommitment
@@ -39,10 +44,10 @@ Under None n = Unit {0}
 Under (Some k) n = k < n
 
 -- the constraint phase: first the count of the public values, then the preprocessed commitment
-abbrev pub constraint_outcome : {E : Type 0} → Bool → Option StarkTranscriptFailure → E → ConstraintOutcome E
-constraint_outcome false f alpha = Refused PublicCount
-constraint_outcome true (Some f) alpha = Ended f
-constraint_outcome true None alpha = Passed alpha
+abbrev pub constraint_outcome : {E : Type 0} → Bool → Option StarkTranscriptFailure → E → Result E StarkTranscriptFailure
+constraint_outcome false f alpha = Err PublicCount
+constraint_outcome true (Some f) alpha = Err f
+constraint_outcome true None alpha = Ok alpha
 
 -- its sponge: as it was, where the run ended, where the phase passed
 abbrev pub constraint_sponge : {S : Type 0} → Bool → Option StarkTranscriptFailure → S → S → S → S
@@ -67,6 +72,11 @@ abbrev pub verifier_outcome : {E : Type 0} → Option StarkTranscriptFailure →
 verifier_outcome (Some f) b bits zeta = Err f
 verifier_outcome None false bits zeta = Err (OodPowWitness bits)
 verifier_outcome None true bits zeta = Ok zeta
+
+-- a verifier's answer as a draw
+abbrev pub with_witness : {E : Type 0} → ℕ → Result E StarkTranscriptFailure → Result (OodDraw E) StarkTranscriptFailure
+with_witness w (Ok zeta) = Ok (record { zeta = zeta; witness = w; tries = 0 })
+with_witness w (Err f) = Err f
 
 -- its sponge: after step 5 where the random commitment is misplaced, after the check where the witness does not pass
 abbrev pub verifier_sponge : {S : Type 0} → Option StarkTranscriptFailure → Bool → S → S → S → S
@@ -95,6 +105,25 @@ module _ {S : Type 0} (st : Steps S) (bits : ℕ) (s : S) where
 abbrev pub tried : ℕ → ℕ → ℕ
 tried bits w = cond (nat_lt 0 bits) (w + 1) 0
 
+-- a witness that a prover found, with its tries, and one that a verifier was given
+abbrev pub ground_found : Option ℕ → (ℕ → ℕ) → Result Ground StarkTranscriptFailure
+ground_found None tried = Err GrindBudgetSpent
+ground_found (Some w) tried = Ok (record { witness = w; tries = tried w })
+
+abbrev pub ground_given : Bool → ℕ → ℕ → Result Ground StarkTranscriptFailure
+ground_given true bits w = Ok (record { witness = w; tries = 0 })
+ground_given false bits w = Err (OodPowWitness bits)
+
+-- step 7 of each role, of a prover with a budget n below an order, and of a verifier with a witness n
+module _ {S : Type 0} (st : Steps S) (order bits n : ℕ) (s : S) where
+  abbrev pub ground_answer : Role → Result Ground StarkTranscriptFailure
+  ground_answer prover = ground_found (found st bits s (min n order)) (tried bits)
+  ground_answer verifier = ground_given (accepted st bits s n) bits n
+
+  abbrev pub ground_left : Role → S
+  ground_left prover = found_sponge st bits s (found st bits s (min n order))
+  ground_left verifier = ground st bits s n
+
 -- steps 5 and 6
 abbrev pub committed : {S : Type 0} → Steps S → StarkShape → ℕ → Option ℕ → S → S
 committed st sh q r s = commit_if st sh.has_randomization r (commit st q s)
@@ -104,7 +133,7 @@ module _ {S E : Type 0} (st : Steps S) (dr : Draws E) (sh : StarkShape) where
   abbrev pub bound : First → S → S
   bound x s = takes st x.public (commit_if st (nat_lt 0 sh.preprocessed_width) x.preprocessed (commit st x.trace s))
 
-  abbrev pub constraint_answer : First → S → ConstraintOutcome E
+  abbrev pub constraint_answer : First → S → Result E StarkTranscriptFailure
   constraint_answer x s =
       constraint_outcome (length x.public == sh.num_public_values) (preprocessed_fault sh x.preprocessed) (challenge st dr (bound x s))
 
@@ -135,3 +164,12 @@ module _ {S E : Type 0} (st : Steps S) (dr : Draws E) (sh : StarkShape) where
   abbrev pub verifier_left : ℕ → Option ℕ → ℕ → S → S
   verifier_left q r w s =
       verifier_sponge (random_fault sh r) (accepted st sh.ood_pow_bits (committed st sh q r s) w) (commit st q s) (tested q r s w) (drawn st dr (tested q r s w))
+
+  -- the out-of-domain phase of each role: a verifier's draw has the witness that it was given, and no tries
+  abbrev pub ood_answer : Role → ℕ → Option ℕ → ℕ → S → Result (OodDraw E) StarkTranscriptFailure
+  ood_answer prover q r budget s = prover_answer q r budget s
+  ood_answer verifier q r w s = with_witness w (verifier_answer q r w s)
+
+  abbrev pub ood_left : Role → ℕ → Option ℕ → ℕ → S → S
+  ood_left prover q r budget s = prover_left q r budget s
+  ood_left verifier q r w s = verifier_left q r w s

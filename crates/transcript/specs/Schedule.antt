@@ -1,8 +1,9 @@
 -- The schedule: the steps that a shape has, taken one after another over what was sent. Assumes nothing.
-use Rattle.std.specs.Prelude.{ℕ, cond, List, [], ◌∷◌, Some, None, Option, ◌==◌, nat_lt}
+use Rattle.std.specs.Prelude.{ℕ, cond, List, [], ◌∷◌, map, filter, Some, None, Option, ◌==◌, nat_lt}
 use Rattle.sponge.specs.Steps.{Steps, checked}
 use Rattle.transcript.specs.Takes.{Draws, takes, commit, challenge, drawn}
-use Rattle.transcript.specs.Seed.{kept, codes, seed}
+use Rattle.transcript.specs.Seed.{codes, seed}
+use Rattle.transcript.specs.declared.input.ConstraintInput.{ConstraintInput}
 use Rattle.transcript.specs.declared.shape.StarkShape.{StarkShape}
 
 -- what is sent in the constraint phase; public values by their numbers
@@ -13,6 +14,10 @@ pub record First : Type 0 where
 
 abbrev pub first : ℕ → Option ℕ → List ℕ → First
 first t p xs = record { trace = t; preprocessed = p; public = xs }
+
+-- what a caller of the constraint phase sends
+abbrev pub sent : {F : Type 0} → (F → ℕ) → ConstraintInput F → First
+sent number input = first input.trace input.preprocessed (map number input.public_values.now)
 
 -- what is sent in the out-of-domain phase
 pub record Second : Type 0 where
@@ -39,7 +44,7 @@ module _ {S E : Type 0} (st : Steps S) (dr : Draws E) where
 
   -- the sponge before the step of code n: the seed is taken, then each step of a lower code that the shape has
   abbrev pub before : StarkShape → First → Second → S → ℕ → S
-  before sh x y s n = plays x y (kept (λ k. nat_lt k n) (codes sh)) (takes st (seed sh) s)
+  before sh x y s n = plays x y (filter (λ k. nat_lt k n) (codes sh)) (takes st (seed sh) s)
 
   abbrev pub schedule_alpha : StarkShape → First → Second → S → E
   schedule_alpha sh x y s = challenge st dr (before sh x y s 4)

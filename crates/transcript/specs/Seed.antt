@@ -1,5 +1,6 @@
 -- The steps that a shape has, and the seed. Assumes nothing.
-use Rattle.std.specs.Prelude.{◌≡◌, ℕ, ◌+◌, ◌*◌, Bool, true, false, cond, List, [], ◌∷◌, ◌++◌, length, ◌==◌, nat_lt}
+use Rattle.std.specs.Prelude.{◌≡◌, ℕ, ◌+◌, ◌*◌, Bool, true, false, cond, Some, None, Option, List, [], ◌∷◌, ◌++◌, map, filter, length, ◌==◌, nat_lt}
+use Rattle.std.specs.List.{flat_map}
 use Rattle.transcript.specs.Takes.{be8}
 use Rattle.transcript.specs.declared.shape.StarkShape.{StarkShape}
 
@@ -7,30 +8,31 @@ use Rattle.transcript.specs.declared.shape.StarkShape.{StarkShape}
 abbrev pub has : StarkShape → ℕ → Bool
 has sh k = cond (k == 2) (nat_lt 0 sh.preprocessed_width) (cond (k == 6) sh.has_randomization (cond (k == 7) (nat_lt 0 sh.ood_pow_bits) true))
 
-abbrev pub kept : (ℕ → Bool) → List ℕ → List ℕ
-kept p [] = []
-kept p (k ∷ ks) = cond (p k) (k ∷ kept p ks) (kept p ks)
+abbrev pub all_codes : List ℕ
+all_codes = 1 ∷ (2 ∷ (3 ∷ (4 ∷ (5 ∷ (6 ∷ (7 ∷ (8 ∷ (9 ∷ (10 ∷ [])))))))))
 
 -- the codes of the steps that the shape has, in rising order
 abbrev pub codes : StarkShape → List ℕ
-codes sh = kept (has sh) (1 ∷ (2 ∷ (3 ∷ (4 ∷ (5 ∷ (6 ∷ (7 ∷ (8 ∷ (9 ∷ (10 ∷ []))))))))))
+codes sh = filter (has sh) all_codes
 
 -- a step's length: the public count, the grinding bits, 0 for the two marks of the bracket, else 1
 abbrev pub step_length : StarkShape → ℕ → ℕ
 step_length sh k = cond (k == 3) sh.num_public_values (cond (k == 7) sh.ood_pow_bits (cond (nat_lt k 9) 1 0))
 
+-- the lengths by the codes, from 1 on: none where the shape does not have the step
+unfoldable pub step_lengths : StarkShape → List (Option ℕ)
+step_lengths sh = map (λ k. cond (has sh k) (Some (step_length sh k)) None) all_codes
+
 abbrev pub step_bytes : StarkShape → List ℕ → List ℕ
-step_bytes sh [] = []
-step_bytes sh (k ∷ ks) = (k ∷ be8 (step_length sh k)) ++ step_bytes sh ks
+step_bytes sh = flat_map (λ k. k ∷ be8 (step_length sh k))
 
 -- one step of the description, where it is there
-abbrev pub part : Bool → ℕ → ℕ → List ℕ
-part true k n = k ∷ be8 n
-part false k n = []
+abbrev pub part : ℕ → Option ℕ → List ℕ
+part k (Some n) = k ∷ be8 n
+part k None = []
 
 abbrev pub number_bytes : List ℕ → List ℕ
-number_bytes [] = []
-number_bytes (n ∷ ns) = be8 n ++ number_bytes ns
+number_bytes = flat_map be8
 
 abbrev pub bit : Bool → ℕ
 bit true = 1

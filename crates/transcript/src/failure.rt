@@ -1,4 +1,4 @@
-// What a phase refuses for, with its number.
+// What a phase refuses for, with its number, as docs/VERIFIER.md lists them: the subject names a refusal by a number, so it is no code for a type.
 ghost use Rattle.std.specs.Prelude.{◌≡◌};
 ghost use Rattle.transcript.specs.Failures.{number_of};
 

@@ -4,6 +4,9 @@
 mod absorb;
 pub mod challenge;
 pub mod failure;
+pub mod input;
 pub mod phases;
+pub mod role;
 pub mod seed;
 pub mod shape;
+mod witness;

@@ -1,18 +1,47 @@
 // The seed: what a new end takes before anything is sent.
-ghost use Rattle.std.specs.Prelude.{◌≡◌, ◌+◌, ◌*◌, ◌≤◌, length};
-ghost use Rattle.transcript.specs.Takes.{takes};
-ghost use Rattle.transcript.specs.Seed.{counted_steps, number_bytes, instance, part, codes, seed, SeedLengths};
+ghost use Rattle.std.specs.Prelude.{◌≡◌, ◌≤◌, ◌++◌, length};
+ghost use Rattle.transcript.specs.Takes.{takes, be8};
+ghost use Rattle.transcript.specs.Seed.{counted_steps, number_bytes, instance, part, codes, step_lengths as lengths_of, seed, SeedLengths};
 
-use crate::absorb::{take_bytes, take_number};
+use crate::absorb::{take_bytes, take_number, take_numbers};
 use crate::shape::StarkShape;
 use sponge::Sponge;
 
-// One step of the description, where the shape has it: its code and its length.
-fn take_step<S: Sponge>(sponge: &mut S, there: bool, code: u8, length: u64)
-    ensures { sponge.new ≡ takes S.steps (part there code length) sponge.old }
+// The lengths of the steps by their codes, from 1 on: none where the shape does not have the step.
+fn step_lengths(shape: &StarkShape) -> [Option<u64>; 10]
+    ensures { result ≡ lengths_of shape.now }
 {
-    if there {
-        sponge.take(u32::from(code));
+    [
+        Some(1),
+        (shape.preprocessed_width > 0).then_some(1),
+        Some(shape.num_public_values as u64),
+        Some(1),
+        Some(1),
+        shape.has_randomization.then_some(1),
+        (shape.ood_pow_bits > 0).then_some(shape.ood_pow_bits as u64),
+        Some(1),
+        Some(0),
+        Some(0),
+    ]
+}
+
+// How many steps the shape has, which fixes the length of its seed.
+fn step_count(shape: &StarkShape) -> usize
+    ensures count { result ≡ length (codes shape.now) }
+    ensures few { result ≤ 10 }
+{
+    step_lengths(shape)
+        .iter()
+        .filter(|length| length.is_some())
+        .count()
+}
+
+// One step of the description, where the shape has it: its code and its length.
+fn take_step<S: Sponge>(sponge: &mut S, code: u32, length: Option<u64>)
+    ensures { sponge.new ≡ takes S.steps (part code length) sponge.old }
+{
+    if let Some(length) = length {
+        sponge.take(code);
         take_number(sponge, length);
     }
 }
@@ -20,60 +49,39 @@ fn take_step<S: Sponge>(sponge: &mut S, there: bool, code: u8, length: u64)
 fn take_steps<S: Sponge>(sponge: &mut S, shape: &StarkShape)
     ensures { sponge.new ≡ takes S.steps (counted_steps shape.now) sponge.old }
 {
-    let preprocessed = shape.preprocessed_width > 0;
-    let random = shape.has_randomization;
-    let grinds = shape.ood_pow_bits > 0;
-    take_number(
-        sponge,
-        7 + u64::from(preprocessed) + u64::from(random) + u64::from(grinds),
-    );
-    take_step(sponge, true, 1, 1);
-    take_step(sponge, preprocessed, 2, 1);
-    take_step(sponge, true, 3, shape.num_public_values as u64);
-    take_step(sponge, true, 4, 1);
-    take_step(sponge, true, 5, 1);
-    take_step(sponge, random, 6, 1);
-    take_step(sponge, grinds, 7, shape.ood_pow_bits as u64);
-    take_step(sponge, true, 8, 1);
-    take_step(sponge, true, 9, 0);
-    take_step(sponge, true, 10, 0);
+    take_number(sponge, step_count(shape) as u64);
+    for (place, length) in step_lengths(shape).iter().enumerate() {
+        take_step(sponge, place as u32 + 1, *length);
+    }
 }
 
+// The instance numbers, with their count.
 fn take_instance<S: Sponge>(sponge: &mut S, shape: &StarkShape)
-    ensures { sponge.new ≡ takes S.steps (number_bytes (instance shape.now)) sponge.old }
+    ensures { sponge.new ≡ takes S.steps (be8 8 ++ number_bytes (instance shape.now)) sponge.old }
 {
-    take_number(sponge, shape.log_ext_degree as u64);
-    take_number(sponge, shape.log_degree as u64);
-    take_number(sponge, shape.main_width as u64);
-    take_number(sponge, shape.preprocessed_width as u64);
-    take_number(sponge, shape.num_periodic_columns as u64);
-    take_number(sponge, shape.num_quotient_chunks as u64);
-    take_number(sponge, u64::from(shape.opens_main_next_row));
-    take_number(sponge, u64::from(shape.opens_preprocessed_next_row));
+    let numbers = [
+        shape.log_ext_degree as u64,
+        shape.log_degree as u64,
+        shape.main_width as u64,
+        shape.preprocessed_width as u64,
+        shape.num_periodic_columns as u64,
+        shape.num_quotient_chunks as u64,
+        u64::from(shape.opens_main_next_row),
+        u64::from(shape.opens_preprocessed_next_row),
+    ];
+    take_number(sponge, numbers.len() as u64);
+    take_numbers(sponge, &numbers);
 }
 
 pub fn take_seed<S: Sponge>(sponge: &mut S, shape: &StarkShape)
     ensures { sponge.new ≡ takes S.steps (seed shape.now) sponge.old }
 {
+    let name = b"p3-uni-stark";
     sponge.take(1);
-    take_number(sponge, 12);
-    take_bytes(sponge, b"p3-uni-stark");
+    take_number(sponge, name.len() as u64);
+    take_bytes(sponge, name);
     take_steps(sponge, shape);
-    take_number(sponge, 8);
     take_instance(sponge, shape);
-}
-
-// How many steps the shape has, which fixes the length of its seed.
-fn step_count(shape: &StarkShape) -> usize
-    ensures count { result ≡ length (codes shape.now) }
-    ensures seeds { length (seed shape.now) ≡ 101 + 9 * result }
-    ensures few { result ≤ 10 }
-    ensures table { SeedLengths }
-{
-    let preprocessed = usize::from(shape.preprocessed_width > 0);
-    let random = usize::from(shape.has_randomization);
-    let grinds = usize::from(shape.ood_pow_bits > 0);
-    7 + preprocessed + random + grinds
 }
 
 // 101 bytes and nine for each step: 164 for seven steps, 191 for ten.

@@ -2,10 +2,12 @@
 use Rattle.std.proofs.Common.{◌≡◌, ℕ, zero, suc, ◌+◌, ◌-◌, ◌*◌, ◌<◌, Bool, true, false, not, eqb, ◌≢◌, List, [], ◌∷◌, length, Some, None, Option, sym, refl, ap, ◌∙◌, subst, arith}
 use Rattle.std.proofs.lemmas.List.{length-map}
 use Rattle.std.proofs.lemmas.Bool.{eq-eqb, ne_eqb, lt-ltb, false≢true}
-use Rattle.algebra.specs.Field.{Decides, FieldLaws}
+use Rattle.std.specs.Bool.{Decides}
+use Rattle.algebra.specs.Field.{FieldLaws}
 use Rattle.algebra.specs.Polynomial.{Each}
 use Rattle.algebra.specs.Ring.{RingOps}
-use Rattle.expression.specs.Expression.{Leaf, Expression, values, meaning}
+use Rattle.expression.specs.declared.Leaf.{Leaf}
+use Rattle.expression.specs.Expression.{Expression, values, meaning}
 use Rattle.field.specs.Numbers.{Numbered}
 use Rattle.air.specs.Picker.{constraint_at}
 use Rattle.airs.specs.Station.{station}
@@ -73,7 +75,7 @@ module _ {F : Type 0} {ops : RingOps F} {inverse : F → Option F} {p : ℕ} {nu
         f.row f.constraint found.0))
 
     pub decides : (r : Option Failure) → Found ops rows ends r → Decides (none r) (WalkIn ops rows ends numbered)
-    decides r found = record { sound = walk_from r found; complete = from_walk r found }
+    decides r found = (walk_from r found, from_walk r found)
 
     pub apart : (r : Option Failure) → Found ops rows ends r → none r ≡ true → 256 * (length rows - 1) < p → Apart ops (table_of rows)
     apart r found e few =

@@ -48,9 +48,6 @@ module _ {F : Type 0} {ops : RingOps F} {inverse : F → Option F} (laws : Field
   pub of_step : (s t b : F) → t ≡ s ⊕ (nat ops 1 ⊕ b) → sub ops (sub ops (sub ops t s) (nat ops 1)) b ≡ 𝟘
   of_step s t b e = ring_from laws.ring (s ∷ t ∷ b ∷ []) (fact e) (search shapes depth 20) tt
 
-  pub same_of_sub : (x y : F) → sub ops x y ≡ 𝟘 → x ≡ y
-  same_of_sub = equal_of_sub laws.ring
-
   pub sub_of_same : (x y : F) → x ≡ y → sub ops x y ≡ 𝟘
   sub_of_same x y e = ring_from laws.ring (x ∷ y ∷ []) (fact e) (search shapes depth 20) tt
 

@@ -5,13 +5,13 @@ use Rattle.std.proofs.lemmas.Bool.{cases_lt}
 use Rattle.algebra.specs.Field.{FieldLaws}
 use Rattle.algebra.specs.Polynomial.{Each}
 use Rattle.algebra.specs.Ring.{RingOps, sub, nat}
-use Rattle.algebra.proofs.RingBasics.{nat_add, nat_one}
+use Rattle.algebra.proofs.RingBasics.{equal_of_sub, nat_add, nat_one}
 use Rattle.algebra.proofs.RingSolver.{ring_from, shapes, fact, ◌⊞◌}
 use Rattle.expression.specs.Expression.{values, meaning}
 use Rattle.field.specs.Numbers.{Numbered}
 use Rattle.airs.specs.Station.{station, byte}
 use Rattle.walk.specs.Walk.{Apart, Selectors, StationLaw, Vanish, Walk, bit_in, byte_in, read_in, spelled, station_in}
-use Rattle.walk.proofs.Steps.{bit_is, byte_is, factor_zero, is_bit, of_step, other_factor, same_of_sub, step_of, sub_of_same, zero_factor}
+use Rattle.walk.proofs.Steps.{bit_is, byte_is, factor_zero, is_bit, of_step, other_factor, step_of, sub_of_same, zero_factor}
 
 spelled_below : (bit : ℕ → ℕ) (n : ℕ) → ((j : ℕ) → j < n → bit j ≤ 1) → spelled bit n < 2 ^ n
 unfolding spelled
@@ -66,10 +66,10 @@ module _ {F : Type 0} {ops : RingOps F} {inverse : F → Option F} {p : ℕ} {nu
     walk_of v = record {
       bits = λ i j h k. bits_of i (v i h) j k;
       steps = λ i h. step_in i h (v i (omega arith));
-      starts = λ h. same_of_sub laws (station_in ops table 0) (publics 0) (other_factor laws (first 0) (sub ops (station_in ops table 0) (publics 0)) (sel.on_first h) (v 0 h).1.1.1.1.1.1.1.1.1.0);
+      starts = λ h. equal_of_sub laws.ring (station_in ops table 0) (publics 0) (other_factor laws (first 0) (sub ops (station_in ops table 0) (publics 0)) (sel.on_first h) (v 0 h).1.1.1.1.1.1.1.1.1.0);
       ends = λ h.
           let l = length table - 1 in
-          same_of_sub laws (station_in ops table l) (publics 1) (other_factor laws (last l) (sub ops (station_in ops table l) (publics 1)) (sel.on_last h) (v l (omega arith)).1.1.1.1.1.1.1.1.1.1.0);
+          equal_of_sub laws.ring (station_in ops table l) (publics 1) (other_factor laws (last l) (sub ops (station_in ops table l) (publics 1)) (sel.on_last h) (v l (omega arith)).1.1.1.1.1.1.1.1.1.1.0);
     }
 
     module _ (w : Walk ops numbered table (publics 0) (publics 1)) where

@@ -1,11 +1,11 @@
 -- The station AIR's constraints on the rows of a table. Assumes nothing.
 use Rattle.std.specs.Prelude.{◌≡◌, ℕ, ◌+◌, ◌<◌, ◌≤◌, Bool, true, false, not, List, [], map, length, Some, None, Option, ◌==◌, nat_lt, slice_index_or}
 use Rattle.algebra.specs.Ring.{RingOps}
-use Rattle.expression.specs.Expression.{Leaf}
+use Rattle.expression.specs.declared.Leaf.{Leaf}
 use Rattle.air.specs.Picker.{constraint_at}
-use Rattle.air.specs.Opened.{cells}
+use Rattle.air.specs.Opened.{cells, covers}
 use Rattle.air.specs.declared.opened.OpenedRows.{OpenedRows}
-use Rattle.airs.specs.Station.{station}
+use Rattle.airs.specs.Station.{station, station_layout}
 use Rattle.walk.specs.Walk.{Walk, read_in}
 use Rattle.walk.specs.declared.Failure.{Failure}
 use Rattle.walk.specs.declared.StationRow.{StationRow}
@@ -38,14 +38,16 @@ module _ {F : Type 0} (ops : RingOps F) (n : ℕ) where
   abbrev pub transition_flag : ℕ → F
   transition_flag i = flag ops (not (i + 1 == n))
 
--- the rows are read as these cells, public values and selectors
-pub record ReadsStation {F : Type 0} (ops : RingOps F) (rows : OpenedRows F F) (main next publics : List F) (first last : Bool) : Type 0 where
-  pub main_is : rows.main.now ≡ main
-  pub next_is : cells rows.main_next ≡ next
-  pub publics_is : rows.public_values.now ≡ publics
-  pub first_is : rows.is_first_row ≡ flag ops first
-  pub last_is : rows.is_last_row ≡ flag ops last
-  pub transition_is : rows.is_transition ≡ flag ops (not last)
+-- What is opened is what the station AIR reads in row i: its cells and those of the row below, the ends and the selectors.
+pub record ReadsRow {F : Type 0} (ops : RingOps F) (rows : List (StationRow F)) (ends : WalkEnds F) (i : ℕ) (read : OpenedRows F F) : Type 0 where
+  pub there : i < length rows
+  pub covered : covers station_layout read ≡ true
+  pub main_is : read.main.now ≡ slice_index_or (table_of rows) i []
+  pub next_is : cells read.main_next ≡ slice_index_or (table_of rows) (i + 1) []
+  pub publics_is : read.public_values.now ≡ ends.values
+  pub first_is : read.is_first_row ≡ flag ops (i == 0)
+  pub last_is : read.is_last_row ≡ flag ops (i + 1 == length rows)
+  pub transition_is : read.is_transition ≡ flag ops (not (i + 1 == length rows))
 
 module _ {F : Type 0} (ops : RingOps F) (rows : List (StationRow F)) (ends : WalkEnds F) where
   abbrev pub public_in : ℕ → F

@@ -2,7 +2,9 @@
 use Rattle.std.specs.Prelude.{◌≡◌, ℕ, zero, suc, ◌+◌, ◌-◌, ◌*◌, ◌^◌, ◌<◌, ◌≢◌, ◌⊎◌, List, [], length, slice_index_or}
 use Rattle.algebra.specs.Polynomial.{Each}
 use Rattle.algebra.specs.Ring.{RingOps, nat}
-use Rattle.expression.specs.Expression.{Leaf, main, main_next, preprocessed, preprocessed_next, public, periodic, is_first, is_last, is_transition, number, values, meaning}
+use Rattle.expression.specs.declared.Leaf.{Leaf}
+use Rattle.expression.specs.declared.Leaf.TheVariants.{Main, MainNext, Preprocessed, PreprocessedNext, Public, Periodic, IsFirst, IsLast, IsTransition, Number}
+use Rattle.expression.specs.Expression.{values, meaning}
 use Rattle.airs.specs.Station.{station}
 
 -- the number that the first n bits write, the lowest first
@@ -33,16 +35,16 @@ module _ {F : Type 0} (ops : RingOps F) (table : List (List F)) where
 
   -- what a leaf is read as in row i; `after` is what stands below the last row
   abbrev pub read_in : (publics : ℕ → F) (after : List F) (first last transition : ℕ → F) → ℕ → Leaf → F
-  read_in publics after first last transition i (main c) = slice_index_or (slice_index_or table i []) c ops.zero
-  read_in publics after first last transition i (main_next c) = slice_index_or (slice_index_or table (suc i) after) c ops.zero
-  read_in publics after first last transition i (preprocessed c) = ops.zero
-  read_in publics after first last transition i (preprocessed_next c) = ops.zero
-  read_in publics after first last transition i (public k) = publics k
-  read_in publics after first last transition i (periodic c) = ops.zero
-  read_in publics after first last transition i is_first = first i
-  read_in publics after first last transition i is_last = last i
-  read_in publics after first last transition i is_transition = transition i
-  read_in publics after first last transition i (number n) = nat ops n
+  read_in publics after first last transition i (Main c) = slice_index_or (slice_index_or table i []) c ops.zero
+  read_in publics after first last transition i (MainNext c) = slice_index_or (slice_index_or table (suc i) after) c ops.zero
+  read_in publics after first last transition i (Preprocessed c) = ops.zero
+  read_in publics after first last transition i (PreprocessedNext c) = ops.zero
+  read_in publics after first last transition i (Public k) = publics k
+  read_in publics after first last transition i (Periodic c) = ops.zero
+  read_in publics after first last transition i IsFirst = first i
+  read_in publics after first last transition i IsLast = last i
+  read_in publics after first last transition i IsTransition = transition i
+  read_in publics after first last transition i (Number n) = nat ops n
 
   -- each of the station AIR's constraints is zero on each row
   abbrev pub Vanish : (publics : ℕ → F) (after : List F) (first last transition : ℕ → F) → Type 0

@@ -1,16 +1,14 @@
 // Periodic columns on a coset, by P values and log n squarings.
 ghost use Rattle.std.specs.Prelude.{◌≡◌, ◌^◌, length, slice_index_or};
-ghost use Rattle.algebra.specs.Field.{total};
 ghost use Rattle.algebra.specs.Ring.{pow};
-ghost use Rattle.cosets.specs.Coset.{turns, bits_of, points_of};
+ghost use Rattle.cosets.specs.Coset.{points_of};
 ghost use Rattle.cosets.specs.Sums.{sums, geometric as geometric_sum};
 ghost use Rattle.domain.specs.Periodic.{interpolated};
 
-use super::{log_size, shift, step};
+use super::{at, step};
 use crate::Coset;
 use domain::periodic::Periodic;
 use domain::powers;
-use domain::traits::Domain;
 use field::extension::Extension;
 use field::roots::TwoAdic;
 use field::traits::Field;
@@ -22,8 +20,8 @@ fn geometric<E: Field>(t: E, k: u32) -> E
     let mut value = E::one();
     let mut power = t;
     for _ in 0..k {
-        value = value.mul(E::one().add(power));
-        power = power.mul(power);
+        value = value * (E::one() + power);
+        power = power * power;
     }
     value
 }
@@ -34,9 +32,9 @@ fn weighted<F: TwoAdic, E: Extension<F>>(inverse: F, back: F, bits: u32, column:
 {
     let mut value = E::zero();
     let mut at = inverse;
-    for j in 0..column.len() {
-        value = value.add(E::embed(column[j]).mul(geometric(w.mul(E::embed(at)), bits)));
-        at = at.mul(back);
+    for x in column {
+        value = value + E::embed(*x) * geometric(w * E::embed(at), bits);
+        at = at * back;
     }
     value
 }
@@ -44,30 +42,24 @@ fn weighted<F: TwoAdic, E: Extension<F>>(inverse: F, back: F, bits: u32, column:
 // The value at w of the polynomial through a column of as many values as d has points.
 // With x point j and P the size, the polynomial that is 1 at x and 0 at the other points is the sum of the powers of w / x below P, over P.
 fn value_at<F: TwoAdic, E: Extension<F>>(d: Coset<F, E>, column: &[F], w: E) -> E
-    requires { length column.now ≡ 2 ^ bits_of (turns F.Field F.TwoAdic.own) d }
-    ensures { result ≡ interpolated F.Field.ops.zero E.Extension.embedded E.Field.ops (total E.Field.ops E.Field.inverted) (points_of (turns F.Field F.TwoAdic.own) d) column.now w }
+    requires { length column.now ≡ 2 ^ d.bits }
+    ensures { result ≡ interpolated F.Field.own E.Field.own E.Extension.own (points_of d) column.now w }
 {
-    let bits = log_size(d);
-    let inverse = powers::inverse_or_zero(shift(d));
+    let inverse = powers::inverse_or_zero(d.shift);
     let back = powers::inverse_or_zero(step(d));
-    let size = F::from_u32(1 << bits);
-    weighted(inverse, back, bits, column, w).mul(E::embed(powers::inverse_or_zero(size)))
+    let size = F::from_u32(1 << d.bits);
+    weighted(inverse, back, d.bits, column, w) * E::embed(powers::inverse_or_zero(size))
 }
 
 // With n = P m, the column is one of the coset of P points at shift^m, and its value is taken at z^m.
 impl<F: TwoAdic, E: Extension<F>> Periodic for Coset<F, E> {
     fn periodic_value(self, column: &[F], z: E) -> Option<E> {
-        let bits = log_size(self);
         let less = powers::log_within(63, column.len())?;
-        if less > bits {
+        if less > self.bits {
             return None;
         }
-        let rest = bits - less;
-        let small = Coset {
-            shift: powers::squared(shift(self), rest),
-            bits: less,
-            above: self.above,
-        };
+        let rest = self.bits - less;
+        let small = at(powers::squared(self.shift, rest), less);
         Some(value_at(small, column, powers::squared(z, rest)))
     }
 }

@@ -1,7 +1,9 @@
 -- Pairs over a field keep the laws of a field where w is no square. Assumes nothing.
-use Rattle.std.specs.Prelude.{◌≡◌, ℕ, zero as none, suc, Some, None, Option, ◌≢◌}
+use Rattle.std.specs.Prelude.{◌≡◌, ℕ, zero as none, suc, Bool, ◌&&◌, Some, None, Option, ◌≢◌}
+use Rattle.std.specs.Bool.{Decides}
 use Rattle.std.proofs.Math.Path.{refl, ap}
 use Rattle.std.proofs.Common.{sym, ◌∙◌}
+use Rattle.std.proofs.lemmas.Bool.Decides.{Decides-and}
 use Rattle.algebra.specs.Ring.{RingOps, RingLaws, nat}
 use Rattle.algebra.specs.Field.{FieldLaws}
 use Rattle.algebra.proofs.RingBasics.{zero-add, mul-zero, zero-mul}
@@ -13,6 +15,14 @@ use Rattle.pair.specs.Pair.{pair, norm, inverse_by, pair_ops, pair_inverse, pair
 
 pub same_parts : {F : Type 0} {x y : Pair F} → x.base ≡ y.base → x.root ≡ y.root → x ≡ y
 same_parts e f = λ i. record { base = e i; root = f i }
+
+-- pairs are equal where both parts are
+pub pair_equality :
+    {F : Type 0} {same : F → F → Bool} → ((a b : F) → Decides (same a b) (a ≡ b))
+    → (x y : Pair F) → Decides (same x.base y.base && same x.root y.root) (x ≡ y)
+pair_equality decides x y =
+    let both = Decides-and _ _ (decides x.base y.base) (decides x.root y.root) in
+    (λ e. let parts = both.0 e in same_parts parts.0 parts.1, λ e. both.1 (ap (λ z. z.base) e, ap (λ z. z.root) e))
 
 -- a pair and its parts
 abbrev of : {F : Type 0} → Pair F → F × F

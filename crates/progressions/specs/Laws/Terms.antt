@@ -1,17 +1,20 @@
 -- The terms of a progression, and products over them. Assumes nothing.
-use Rattle.std.proofs.Common.{◌≡◌, ℕ, zero, suc, ◌+◌, ◌-◌, ◌*◌, ◌/◌, ◌^◌, ◌<◌, ◌≤◌, Bool, true, false, leb, ◌≢◌, List, [], ◌∷◌, map, length, get_or, Option, sym, refl, ap, ◌∙◌, ap₂, add-zero, add-suc, suc-add, arith, le-leb, leb-false, leb-true}
-use borrow.Author.Tests.{lt-leb}
+use Rattle.std.proofs.Common.{min, pow_pos, pow_mono, ◌≡◌, ℕ, zero, suc, ◌+◌, ◌*◌, ◌^◌, ◌<◌, ◌≤◌, Bool, true, false, leb, ◌≢◌, [], ◌∷◌, map, length, get_or, Option, sym, refl, ap, ◌∙◌, ap₂, add-zero, add-suc, suc-add, arith, leb-false, leb-true}
+use native.Mathlib.Decide.{dec_lt}
 use Rattle.algebra.specs.Ring.{RingOps, RingLaws, nat, sub}
 use Rattle.algebra.specs.Field.{FieldLaws}
 use Rattle.algebra.specs.Polynomial.{Each, Distinct}
-use Rattle.algebra.specs.Domain.{Apart, vanishing}
-use Rattle.algebra.specs.Lagrange.{basis}
+use Rattle.algebra.specs.Domain.{Apart}
 use Rattle.algebra.proofs.RingBasics.{nat_add, nat_mul, equal_of_sub}
 use Rattle.algebra.proofs.CosetProduct.{double}
 use Rattle.algebra.proofs.FieldBasics.{division, zero_of_product}
 use Rattle.algebra.proofs.RingSolver.{ring, ring_from, shapes, fact, ◌·◌, ◌⊞◌}
 use Rattle.field.specs.Numbers.{Numbered}
-use Rattle.progressions.specs.Progression.{fitting, term, terms}
+use Rattle.field.specs.declared.extension.Extension.{Ghosts as ExtensionMeaning}
+use Rattle.field.specs.declared.traits.Field.{Ghosts as FieldMeaning}
+use Rattle.domain.specs.Points.{later}
+use Rattle.progressions.specs.Fitting.{fitting}
+use Rattle.progressions.specs.Progression.{term, terms}
 
 pub length_terms : {F : Type 0} (ops : RingOps F) (a s : F) (i n : ℕ) → length (terms ops a s i n) ≡ n
 length_terms ops a s i zero = refl
@@ -30,25 +33,6 @@ fitting_within p (suc b) = by_test (leb (2 ^ suc b) p) (fitting_within p b)
     by_test : (t : Bool) → fitting p b ≤ b → elim t as (λ _. ℕ) [ true ↦ suc b | false ↦ fitting p b ] ≤ suc b
     by_test true less = omega arith
     by_test false less = omega arith
-
--- the largest that fits
-pub fitting_none : (p b : ℕ) → b ≡ 0 → fitting p b ≡ 0
-unfolding fitting
-fitting_none p zero e = refl
-fitting_none p (suc b) e = absurd (omega arith)
-
-pub fitting_some : (p most : ℕ) → 2 ^ most ≤ p → fitting p most ≡ most
-unfolding fitting
-fitting_some p zero h = refl
-fitting_some p (suc b) h = let by_test : Bool → ℕ = λ t. elim t [ true ↦ suc b | false ↦ fitting p b ] in ap by_test (le-leb (2 ^ suc b) p h)
-
-pub fitting_less : (p b : ℕ) → 0 < b → p < 2 ^ b → fitting p b ≡ fitting p (b - 1)
-unfolding fitting
-fitting_less p zero some h = absurd (omega arith)
-fitting_less p (suc b) some h =
-    let by_test : Bool → ℕ = λ t. elim t [ true ↦ suc b | false ↦ fitting p b ] in
-    let one_less : b ≡ suc b - 1 = omega arith in
-    ap by_test (lt-leb (2 ^ suc b) p h) ∙ ap (fitting p) one_less
 
 pub fitting_fits : (p most : ℕ) → 0 < p → 2 ^ fitting p most ≤ p
 unfolding fitting
@@ -71,29 +55,30 @@ fitting_keeps p (suc m) b within fits = by_test (leb (2 ^ suc m) p) refl (λ les
         let other : b ≢ suc m = λ e. omega (arith, large, fits, ap (λ n. 2 ^ n) e) in
         again (omega (arith, other))
 
-pub half_power : (b : ℕ) → 0 < b → 2 ^ b / 2 ≡ 2 ^ (b - 1)
-half_power zero some = absurd (omega arith)
-half_power (suc b) some =
-    let one_less : suc b - 1 ≡ b = omega arith in
-    let halves : 2 ^ suc b / 2 ≡ 2 ^ b = omega (arith, double b) in
-    halves ∙ ap (λ m. 2 ^ m) (sym one_less)
+-- the largest logarithm, from that of the largest power up to p
+pub fitting_is : (p most r : ℕ) → 2 ^ r ≤ p → p < 2 * 2 ^ r → min r most ≡ fitting p most
+fitting_is p most r low high =
+    let some : 0 < p = omega (arith, low, pow_pos r) in
+    let least : min r most ≤ r = omega arith in
+    let keeps = fitting_keeps p most (min r most) (omega arith) (omega (arith, low, pow_mono least)) in
+    by_order keeps (dec_lt r (fitting p most))
+  where
+    by_order : min r most ≤ fitting p most → Dec (r < fitting p most) → min r most ≡ fitting p most
+    by_order keeps (yes more) =
+        let some : 0 < p = omega (arith, low, pow_pos r) in
+        let large : 2 ^ suc r ≤ 2 ^ fitting p most = pow_mono more in
+        absurd (omega (arith, fitting_fits p most some, large, double r, high))
+    by_order keeps (no rest) = omega (arith, keeps, fitting_within p most)
 
--- one factor of a product over the terms that are left
-module _ {F E : Type 0} (f : RingOps F) (o : RingOps E) (embedded : F → E) (a s : F) (z : E) (i j n : ℕ) (less : j < n) where
-  rest_is : {A : Type 0} (g : List E → A) → g (map embedded (terms f a s (i + j) (n - j))) ≡ g (embedded (term f a s (i + j)) ∷ map embedded (terms f a s (i + (j + 1)) (n - (j + 1))))
-  rest_is g =
-      let one_more : n - j ≡ suc (n - (j + 1)) = omega arith in
-      let next : suc (i + j) ≡ i + (j + 1) = omega arith in
-      ap (λ m. g (map embedded (terms f a s (i + j) m))) one_more
-      ∙ ap (λ k. g (embedded (term f a s (i + j)) ∷ map embedded (terms f a s k (n - (j + 1))))) next
-
-  pub vanishing_next : vanishing o (map embedded (terms f a s (i + j) (n - j))) z
-      ≡ o.mul (sub o z (embedded (term f a s (i + j)))) (vanishing o (map embedded (terms f a s (i + (j + 1)) (n - (j + 1)))) z)
-  vanishing_next = rest_is (λ ps. vanishing o ps z)
-
-  pub basis_next : (inv : E → E) (x : E) → basis o inv x (map embedded (terms f a s (i + j) (n - j))) z
-      ≡ o.mul (o.mul (inv (sub o x (embedded (term f a s (i + j))))) (sub o z (embedded (term f a s (i + j))))) (basis o inv x (map embedded (terms f a s (i + (j + 1)) (n - (j + 1)))) z)
-  basis_next inv x = rest_is (λ ps. basis o inv x ps z)
+-- the points of a progression in the field above
+pub later_terms : {F E : Type 0} (field : FieldMeaning F) (over : ExtensionMeaning E F) (a s : F) (i n k m : ℕ) → k + m ≤ n
+    → later field over (terms field.ops a s i n) k m ≡ map over.embedded (terms field.ops a s (i + k) m)
+later_terms field over a s i n k zero within = refl
+later_terms field over a s i n k (suc m) within =
+    let next : i + suc k ≡ suc (i + k) = omega arith in
+    ap₂ ◌∷◌
+    (ap over.embedded (term_at field.ops a s field.ops.zero i n k (omega arith)))
+    (later_terms field over a s i n (suc k) m (omega arith) ∙ ap (λ j. map over.embedded (terms field.ops a s j m)) next)
 
 module _ {F : Type 0} {ops : RingOps F} (laws : RingLaws ops) where
   open ops use {zero as 𝟘, one as 𝟙, add as ◌⊕◌, mul as ◌⊗◌, neg as ⊖◌}
@@ -122,12 +107,6 @@ module _ {F : Type 0} {ops : RingOps F} (laws : RingLaws ops) where
 
   pub times_none : (x y : F) → nat ops 0 ⊗ x ≡ nat ops 0 ⊗ y
   times_none x y = ring laws (x ∷ y ∷ []) (search shapes depth 20) tt
-
-  pub product_start : (p : F) → 𝟙 ⊗ p ≡ p
-  product_start p = ring laws (p ∷ []) (search shapes depth 20) tt
-
-  pub product_next : (v x p : F) → v ⊗ x ⊗ p ≡ v ⊗ (x ⊗ p)
-  product_next v x p = laws.mul_assoc v x p
 
 module _ {F : Type 0} {ops : RingOps F} {inverse : F → Option F} (laws : FieldLaws ops inverse) (p : ℕ) (numbered : F → ℕ) (named : Numbered ops p numbered) where
   open ops use {zero as 𝟘, one as 𝟙, add as ◌⊕◌, mul as ◌⊗◌, neg as ⊖◌}

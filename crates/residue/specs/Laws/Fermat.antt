@@ -2,7 +2,7 @@
 use Rattle.std.specs.Prelude.{◌≡◌, ℕ, zero, suc, pred, ◌+◌, ◌*◌, ◌%◌, ◌^◌, ◌<◌, refl}
 use Rattle.std.proofs.Common.{sym, ap, ap₂, subst, ◌∙◌, add-mul, suc-mul, zero-mul, mul-one, mul-add, mul-zero, mul_comm, mul_left_comm, mul_assoc, pow-suc, one-mul, mod-eq_of_lt, one-add, arith}
 use Rattle.std.proofs.Math.Nat.{pow-zero, suc-pred-eq_of_pos, zero-mod, add-mod, mod-add-mod, add-mod-mod, mul-mod_right}
-use Rattle.residue.specs.Laws.Modular.{mul_mod_mod, mod_mul_mod}
+use Rattle.std.proofs.lemmas.Nat.{mul-mod_first, mul-mod_second}
 use Rattle.residue.specs.Prime.{Prime}
 use Rattle.residue.specs.Laws.Residue.{inverse_right}
 use Rattle.residue.specs.Residue.{inverse_number}
@@ -90,9 +90,9 @@ module _ (p : ℕ) (prime : Prime p) where
       let i = inverse_number p k in
       ap (λ t. t % p) (sym (mul-one c))
       ∙ ap (λ t. c * t % p) (sym (inverse_right p prime.above_one prime k some below))
-      ∙ mul_mod_mod c (k * i) p
+      ∙ mul-mod_second c (k * i) p
       ∙ ap (λ t. t % p) (mul_left_comm c k i ∙ sym (mul_assoc k c i))
-      ∙ sym (mod_mul_mod (k * c) i p)
+      ∙ sym (mul-mod_first (k * c) i p)
       ∙ ap (λ t. t * i % p) divided
       ∙ simp (zero-mul, zero-mod)
 
@@ -104,7 +104,7 @@ module _ (p : ℕ) (prime : Prime p) where
   front_one a (suc m) below =
       let rest = a ^ suc m in
       let gone : choose p (suc m) * rest % p ≡ 0 =
-      sym (mod_mul_mod (choose p (suc m)) rest p)
+      sym (mul-mod_first (choose p (suc m)) rest p)
       ∙ ap (λ t. t * rest % p) (choose_divided (suc m) (omega arith) below)
       ∙ simp (zero-mul, zero-mod) in
       add-mod (front p a (suc m)) (choose p (suc m) * rest) p

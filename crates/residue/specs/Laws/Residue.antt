@@ -1,10 +1,12 @@
 -- Residues keep the laws of a field. Assumes nothing.
-use Rattle.std.specs.Prelude.{◌≡◌, ℕ, zero, suc, ◌+◌, ◌-◌, ◌*◌, ◌/◌, ◌%◌, ◌<◌, ◌≤◌, Bool, true, false, Some, None, nat_lt}
+use Rattle.std.specs.Prelude.{◌≡◌, ℕ, zero, suc, ◌+◌, ◌-◌, ◌*◌, ◌/◌, ◌%◌, ◌<◌, ◌≤◌, ◌==◌, Bool, true, false, Some, None, nat_lt}
+use Rattle.std.specs.Bool.{Decides}
 use Rattle.std.proofs.Math.Path.{refl, ap}
-use Rattle.std.proofs.Common.{sym, ◌∙◌, ⊎_elim, add-zero, add_comm, add_assoc, zero-mul, mul-one, mul_comm, mul_left_comm, mul_assoc, mul-add, mod-eq_of_lt, le_refl, eq-zero-or-pos, one-add, arith}
+use Rattle.std.proofs.Common.{sym, ◌∙◌, ⊎_elim, add-zero, add_comm, add_assoc, zero-mul, mul-one, mul_comm, mul_left_comm, mul_assoc, mul-add, mod-eq_of_lt, le_refl, eq-eqb, eqb-true, eq-zero-or-pos, one-add, arith}
 use mathlib.Core.HLevel.{is_prop→PathP}
 use Rattle.std.proofs.Math.Bridge.{le_prop}
 use Rattle.std.proofs.Math.Nat.{mod-lt, mod-add-mod, add-mod-mod, mod_self, zero-mod}
+use Rattle.std.proofs.lemmas.Nat.{mul-mod_first, mul-mod_second}
 use borrow.Author.Tests.{ltb-true, ltb-false}
 use Rattle.residue.specs.declared.Residue.{Residue}
 use Rattle.algebra.specs.Ring.{RingLaws, nat}
@@ -12,11 +14,14 @@ use Rattle.algebra.specs.Field.{FieldLaws}
 use Rattle.field.specs.Numbers.{Numbered}
 use Rattle.residue.specs.Prime.{Prime}
 use Rattle.residue.specs.Residue.{reduced, found_from, inverse_number, inverse_of, residue_ops, residue_inverse}
-use Rattle.residue.specs.Laws.Modular.{mul_mod_mod, mod_mul_mod, turn}
+use Rattle.residue.specs.Laws.Modular.{turn}
 
 pub same_value : {p : ℕ} (x y : Residue p) → x.value ≡ y.value → x ≡ y
 same_value {p} x y e =
     λ i. record { value = e i; below = is_prop→PathP (λ j. e j < p) (λ j. le_prop) x.below y.below i }
+
+pub residue_equality : {p : ℕ} (x y : Residue p) → Decides (x.value == y.value) (x ≡ y)
+residue_equality x y = (λ e. same_value x y (eqb-true _ _ e), λ e. eq-eqb _ _ (ap (λ z. z.value) e))
 
 module _ (p : ℕ) (more : 1 < p) (prime : Prime p) where
   positive : 0 < p
@@ -51,7 +56,7 @@ module _ (p : ℕ) (more : 1 < p) (prime : Prime p) where
   one_inverse : (n y z : ℕ) → y < p → z < p → n * y % p ≡ 1 → n * z % p ≡ 1 → y ≡ z
   one_inverse n y z y-below z-below ny nz =
       let by_one : (a b : ℕ) → a < p → n * b % p ≡ 1 → a * (n * b) % p ≡ a =
-      λ a b below nb. sym (mul_mod_mod a (n * b) p) ∙ ap (λ t. a * t % p) nb ∙ simp mul-one (small below) in
+      λ a b below nb. sym (mul-mod_second a (n * b) p) ∙ ap (λ t. a * t % p) nb ∙ simp mul-one (small below) in
       sym (by_one y z y-below nz) ∙ ap (λ t. t % p) (simp (mul_comm, mul_left_comm)) ∙ by_one z y z-below ny
 
   pub inverse_is : (n : ℕ) (y : Residue p) → n < p → n * y.value % p ≡ 1 → inverse_of p more n ≡ Some y
@@ -59,7 +64,7 @@ module _ (p : ℕ) (more : 1 < p) (prime : Prime p) where
   inverse_is (suc n) y below right =
       ap Some (same_value (reduced p more (inverse_number p (suc n))) y
       (one_inverse (suc n) (inverse_number p (suc n) % p) y.value (mod-lt (inverse_number p (suc n)) positive) y.below
-      (mul_mod_mod (suc n) (inverse_number p (suc n)) p ∙ inverse_right (suc n) (omega arith) below) right))
+      (mul-mod_second (suc n) (inverse_number p (suc n)) p ∙ inverse_right (suc n) (omega arith) below) right))
 
   none_is_zero : (n : ℕ) → inverse_of p more n ≡ None → n ≡ 0
   none_is_zero zero e = refl
@@ -69,7 +74,7 @@ module _ (p : ℕ) (more : 1 < p) (prime : Prime p) where
   some_inverts zero y below e = cc
   some_inverts (suc n) y below e =
       let is_y : reduced p more (inverse_number p (suc n)) ≡ y = cc in
-      ap (λ t. suc n * t.value % p) (sym is_y) ∙ mul_mod_mod (suc n) _ p ∙ inverse_right (suc n) (omega arith) below
+      ap (λ t. suc n * t.value % p) (sym is_y) ∙ mul-mod_second (suc n) _ p ∙ inverse_right (suc n) (omega arith) below
 
   ring_laws : RingLaws (residue_ops p more)
   ring_laws = record {
@@ -79,9 +84,9 @@ module _ (p : ℕ) (more : 1 < p) (prime : Prime p) where
     add_neg = λ x. same_value _ _
         (add-mod-mod x.value (p - x.value) p ∙ ap (λ t. t % p) (all x) ∙ mod_self p ∙ sym (zero-mod p));
     mul_comm = λ x y. ap (reduced p more) (mul_comm x.value y.value);
-    mul_assoc = λ x y z. same_value _ _ (simp (mod_mul_mod, mul_mod_mod, mul_assoc));
-    mul_one = λ x. same_value _ _ (simp (mul_mod_mod, mul-one) (small x.below));
-    mul_add = λ x y z. same_value _ _ (simp (mod-add-mod, add-mod-mod, mul_mod_mod, mul-add));
+    mul_assoc = λ x y z. same_value _ _ (simp (mul-mod_first, mul-mod_second, mul_assoc));
+    mul_one = λ x. same_value _ _ (simp (mul-mod_second, mul-one) (small x.below));
+    mul_add = λ x y z. same_value _ _ (simp (mod-add-mod, add-mod-mod, mul-mod_second, mul-add));
   }
     where
       all : (x : Residue p) → x.value + (p - x.value) ≡ p

@@ -2,8 +2,8 @@
 use Rattle.std.specs.Prelude.{◌≡◌, ℕ, zero, suc, ◌+◌, ◌-◌, ◌*◌, ◌%◌, ◌^◌, ◌<◌, ◌≢◌}
 use Rattle.std.proofs.Common.{sym, ap, ◌∙◌, one-mul, mul-zero, mul-suc, mul_comm, pow-suc, mod-lt, mod-eq_of_lt, pos_of_ne-zero, ne_of_gt, le-mul_of_pos_right, arith, pow-add}
 use Rattle.std.proofs.Math.Nat.{mul-sub, pow-zero, zero-mod, mul-add-mod_self_right}
+use Rattle.std.proofs.lemmas.Nat.{mul-mod_first, mul-mod_second, pow-mod}
 use Rattle.residue.specs.Laws.Fermat.{fermat}
-use Rattle.residue.specs.Laws.Modular.{mul_mod_mod, mod_mul_mod}
 use Rattle.residue.specs.Prime.{Prime}
 
 pow_one : (a : ℕ) → a ^ 1 ≡ a
@@ -16,16 +16,6 @@ pub pow_mul : (a m n : ℕ) → a ^ (m * n) ≡ (a ^ m) ^ n
 pow_mul a m zero = simp (mul-zero, pow-zero)
 pow_mul a m (suc n) = simp (mul-suc, pow-add, pow-suc, pow_mul a m n)
 
-pub pow_mod : (p a n : ℕ) → (a % p) ^ n % p ≡ a ^ n % p
-pow_mod p a zero = simp pow-zero
-pow_mod p a (suc n) =
-    ap (λ t. t % p) (pow-suc (a % p) n)
-    ∙ mul_mod_mod ((a % p) ^ n) a p
-    ∙ sym (mod_mul_mod ((a % p) ^ n) a p)
-    ∙ ap (λ t. t * a % p) (pow_mod p a n)
-    ∙ mod_mul_mod (a ^ n) a p
-    ∙ ap (λ t. t % p) (sym (pow-suc a n))
-
 -- a squared k times
 abbrev pub squared : (p a k : ℕ) → ℕ
 squared p a zero = a % p
@@ -35,7 +25,7 @@ pub squared_power : (p a k : ℕ) → squared p a k ≡ a ^ (2 ^ k) % p
 squared_power p a zero = ap (λ t. t % p) (sym (pow_one a))
 squared_power p a (suc k) =
     squared_power p (a * a % p) k
-    ∙ pow_mod p (a * a) (2 ^ k)
+    ∙ pow-mod (a * a) (2 ^ k) p
     ∙ ap (λ t. t ^ (2 ^ k) % p) (sym (pow_two a))
     ∙ ap (λ t. t % p) (sym (pow_mul a 2 (2 ^ k)))
     ∙ ap (λ n. a ^ n % p) (mul_comm 2 (2 ^ k) ∙ sym (pow-suc 2 k))
@@ -56,12 +46,12 @@ no_root p prime n j k is-p minus some c root =
     let power : c ^ p ≡ (c * c) ^ half * c =
     ap (λ m. c ^ m) is-p ∙ pow-suc c (2 * half) ∙ ap (λ t. t * c) (pow_mul c 2 half ∙ ap (λ t. t ^ half) (pow_two c)) in
     let half_power : (c * c) ^ half % p ≡ p - 1 =
-    sym (pow_mod p (c * c) half) ∙ ap (λ t. t ^ half % p) root ∙ pow_mod p n half
+    sym (pow-mod (c * c) half p) ∙ ap (λ t. t ^ half % p) root ∙ pow-mod n half p
     ∙ ap (λ t. t % p) (pow_mul n j (2 ^ k)) ∙ sym (squared_power p (n ^ j) k) ∙ minus in
     let c_some : 0 < c % p =
-    pos_of_ne-zero λ e. ne_of_gt some (sym root ∙ sym (mul_mod_mod c c p) ∙ ap (λ t. c * t % p) e ∙ simp (mul-zero, zero-mod)) in
+    pos_of_ne-zero λ e. ne_of_gt some (sym root ∙ sym (mul-mod_second c c p) ∙ ap (λ t. c * t % p) e ∙ simp (mul-zero, zero-mod)) in
     let below = mod-lt c {m = p} (omega arith) in
     let negated : c % p ≡ p - c % p =
-    sym (fermat p prime c) ∙ ap (λ t. t % p) power ∙ sym (mod_mul_mod ((c * c) ^ half) c p)
-    ∙ ap (λ t. t * c % p) half_power ∙ sym (mul_mod_mod (p - 1) c p) ∙ minus_one p (c % p) c_some below in
+    sym (fermat p prime c) ∙ ap (λ t. t % p) power ∙ sym (mul-mod_first ((c * c) ^ half) c p)
+    ∙ ap (λ t. t * c % p) half_power ∙ sym (mul-mod_second (p - 1) c p) ∙ minus_one p (c % p) c_some below in
     omega arith

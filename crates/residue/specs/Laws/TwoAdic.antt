@@ -2,13 +2,13 @@
 use Rattle.std.specs.Prelude.{◌≡◌, ℕ, zero, suc, ◌*◌, ◌%◌, ◌^◌}
 use Rattle.std.proofs.Common.{sym, ap, ◌∙◌, mul_comm, pow-suc, arith, lit<, lit≤}
 use Rattle.std.proofs.Math.Nat.{pow-zero}
+use Rattle.std.proofs.lemmas.Nat.{mul-mod_second}
 use Rattle.algebra.specs.Ring.{pow}
 use Rattle.residue.specs.declared.Residue.{Residue}
 use Rattle.residue.specs.Moduli.{seventeen_prime, babybear_prime, residues, seventeens}
 use Rattle.residue.specs.Residue.{reduced, residue_ops}
 use Rattle.residue.specs.Prime.{Prime}
 use Rattle.field.specs.TwoAdic.{TwoAdicLaws}
-use Rattle.residue.specs.Laws.Modular.{mul_mod_mod}
 use Rattle.residue.specs.Laws.Residue.{same_value}
 use Rattle.residue.specs.Laws.Squares.{squared, squared_power, pow_mul}
 
@@ -16,7 +16,7 @@ pub power_value : (p : ℕ) (prime : Prime p) (x : Residue p) (n : ℕ) → (pow
 unfolding pow
 power_value p prime x zero = ap (λ t. t % p) (sym (pow-zero x.value))
 power_value p prime x (suc n) =
-    ap (λ t. x.value * t % p) (power_value p prime x n) ∙ mul_mod_mod x.value (x.value ^ n) p
+    ap (λ t. x.value * t % p) (power_value p prime x n) ∙ mul-mod_second x.value (x.value ^ n) p
     ∙ ap (λ t. t % p) (mul_comm x.value (x.value ^ n) ∙ sym (pow-suc x.value n))
 
 -- the power j * 2 ^ k, by squaring k times

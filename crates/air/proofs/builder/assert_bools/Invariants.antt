@@ -6,4 +6,6 @@ use Rattle.air.proofs.builder.assert_bools.Given as goal
 abbrev pub invariant-loop-column : goal.invariant-loop-column
 invariant-loop-column g l =
     let all = asserted g.B.AirBuilder.step g.R.Expr.Algebra.operations (g.R.Rows.reads l.rows) in
-    all l.builder (booleans l.column (l.to - l.column)) ≡ all l.initial.builder (booleans l.from (l.to - l.from))
+    let left = l.column-iterator in
+    let columns = l.fn.columns in
+    all l.builder (booleans left.start (left.end - left.start)) ≡ all l.initial.builder (booleans columns.start (columns.end - columns.start))

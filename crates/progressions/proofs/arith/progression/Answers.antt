@@ -1,11 +1,11 @@
-use Rattle.std.proofs.Common.{sym, ◌∙◌}
-use Rattle.progressions.specs.Progression.{numbers}
+use Rattle.std.proofs.Common.{sym, ap, ◌∙◌}
+use Rattle.progressions.specs.Progression.{placed_by}
 use Rattle.progressions.specs.Laws.Progression.{placed_points}
 use Rattle.progressions.proofs.arith.progression.Goals as goal
 
-pub returns : goal.returns
-returns g c =
-    record {
-      value = c.checked.ensures;
-      points = λ d is. placed_points (numbers g.F.Field g.F.PrimeField) g.F.Field.laws g.F.PrimeField.numbered g.met.F.PrimeField.numbers c.args.start c.args.step c.args.size d (sym c.checked.ensures ∙ is);
-    }
+pub returns-clause-points : goal.returns-clause-points
+returns-clause-points g c =
+    let a = c.args.start in
+    let s = c.args.step in
+    let log_is = sym c.log_size.ensures ∙ c.in_ok-bits.was in
+    λ d is. placed_points g.F.PrimeField g.F.Field g.met.F.PrimeField.numbers a s c.args.size d (ap (placed_by a s) log_is ∙ sym c.made.ensures ∙ is)

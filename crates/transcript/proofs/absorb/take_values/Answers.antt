@@ -1,15 +1,8 @@
-use Rattle.std.proofs.Common.{map, ap, ◌∙◌, arith, take_all}
-use Rattle.transcript.specs.Takes.{takes}
-use Rattle.transcript.proofs.Taking.{takes_more}
+use Rattle.std.proofs.Common.{rules}
+use Rattle.std.proofs.lemmas.Iterator.{YieldsList-from_slice, YieldsList-from_map}
+use Rattle.transcript.proofs.Taking.{takes_all}
 use Rattle.transcript.proofs.absorb.take_values.Goals as goal
-
-pub loop-x-preserved : goal.loop-x-preserved
-loop-x-preserved g c =
-    let st = g.S.Sponge.steps in
-    let e = takes_more st g.F.PrimeField.numbered c.args.values.now c.loop-x.x-index c.x-item.result c.args.sponge.now c.loop-x-test.true c.x-item.is in
-    (omega arith, cc e)
 
 pub returns : goal.returns
 returns g c =
-    let e = take_all c.loop-x.x-index c.args.values.now c.loop-x-test.false in
-    c.loop-x.invariant.1 ∙ ap (λ ys. takes g.S.Sponge.steps (map g.F.PrimeField.numbered ys) c.args.sponge.now) e
+    takes_all g.S.Sponge.steps _ _ c.take_each.ensures (YieldsList-from_map _ g.F.PrimeField.numbered (YieldsList-from_slice c.args.values.now cc) c.map.ensures.closure (λ x r q k. search rules))

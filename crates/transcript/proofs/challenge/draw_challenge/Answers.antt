@@ -1,6 +1,6 @@
 use Rattle.std.proofs.Common.{◌≡◌, ◌%◌, sym, ap, ◌∙◌, ap₂, add-one, arith}
 use Rattle.algebra.specs.Ring.{nat}
-use Rattle.transcript.specs.Takes.{after, words, over}
+use Rattle.transcript.specs.Takes.{after}
 use Rattle.transcript.proofs.Drawing.{one_more}
 use Rattle.transcript.proofs.challenge.draw_challenge.Goals as goal
 
@@ -13,6 +13,7 @@ nonzero_rem-word g c =
 pub loop-k-preserved : goal.loop-k-preserved
 loop-k-preserved g c =
     let st = g.S.Sponge.steps in
+    let l = g.met.E.Field in
     let o = g.E.Field.ops in
     let s = c.args.sponge.now in
     let k = c.loop-k.k in
@@ -22,16 +23,5 @@ loop-k-preserved g c =
     let size = c.dimension-k-end.ensures in (
       omega arith,
       (c.give.ensures.left ∙ ap st.given c.loop-k.invariant.1 ∙ sym (ap (λ n. after st n s) (add-one k))),
-      (c.add-value.ensures ∙ ap₂ o.add c.loop-k.invariant.2 (c.mul.ensures ∙ ap₂ o.mul word c.basis_element.ensures) ∙ sym (one_more g.E.Field.laws.ring g.E.Extension.basis st p g.E.Extension.dim k s)),
+      (l.sums _ _ _ c.add-value.ensures ∙ ap₂ o.add c.loop-k.invariant.2 (l.products _ _ _ c.mul.ensures ∙ ap₂ o.mul word c.basis_element.ensures) ∙ sym (one_more g.E.Field.laws.ring g.E.Extension.basis st p g.E.Extension.dim k s)),
     )
-
-pub returns : goal.returns
-returns g c =
-    let st = g.S.Sponge.steps in
-    let s = c.args.sponge.now in
-    let size = c.dimension-k-end.ensures in
-    let all : c.loop-k.k ≡ g.E.Extension.dim = omega arith in
-    record {
-      value = c.loop-k.invariant.2 ∙ ap (λ n. (over g.F.PrimeField.modulus g.E.Field.ops g.E.Extension.dim g.E.Extension.basis).of (words st n s)) all;
-      left = c.loop-k.invariant.1 ∙ ap (λ n. after st n s) all;
-    }

@@ -13,14 +13,15 @@ loop-init g c =
 pub loop-preserved : goal.loop-preserved
 loop-preserved g c =
     let laws = g.E.Field.laws.ring in
+    let l = g.met.E.Field in
     let o = g.E.Field.ops in
     let t = c.args.t in
     let k = c.loop.counter in
     let (value, power) = c.loop.invariant in
     let all : 2 ^ k + 2 ^ k ≡ 2 ^ (k + 1) = sym (double k) ∙ ap (λ m. 2 ^ m) (sym (add-one k)) in (
-      c.mul-value.ensures
-          ∙ ap₂ o.mul value (c.add.ensures ∙ ap₂ o.add c.one.ensures power)
+      l.products _ _ _ c.mul-value.ensures
+          ∙ ap₂ o.mul value (l.sums _ _ _ c.add.ensures ∙ ap₂ o.add c.one.ensures power)
           ∙ geometric_double laws t (2 ^ k)
           ∙ ap (geometric o t) all,
-      c.mul-power.ensures ∙ ap₂ o.mul power power ∙ pow_twice laws t k,
+      l.products _ _ _ c.mul-power.ensures ∙ ap₂ o.mul power power ∙ pow_twice laws t k,
     )

@@ -1,12 +1,7 @@
-use Rattle.std.proofs.Common.{◌*◌, ◌%◌, sym, ap, ◌∙◌, mod-lt, mod-eq_of_lt, mul-one, arith, rules}
+use Rattle.std.proofs.Common.{◌*◌, ◌%◌, sym, ap, ◌∙◌, mod-lt, arith, rules}
 use Rattle.residue.specs.Laws.Modular.{turn}
 use Rattle.residue.specs.Laws.Residue.{left_positive, inverse_is}
 use Rattle.residue.proofs.arith.ResidueField.inverse.Goals as goal
-
-pub loop-left-init : goal.loop-left-init
-loop-left-init g c =
-    let self = c.args.self in
-    (omega arith, omega arith, self.below, simp mul-one (mod-eq_of_lt self.below))
 
 pub loop-left-preserved : goal.loop-left-preserved
 loop-left-preserved g c =

@@ -1,9 +1,0 @@
-use Rattle.std.proofs.Common.{sym, ◌∙◌}
-use Rattle.progressions.specs.Progression.{numbers}
-use Rattle.progressions.specs.Laws.Progression.{progression_length}
-use Rattle.progressions.proofs.arith.ProgressionDomain.size.Goals as goal
-
-pub returns : goal.returns
-returns g c =
-    c.count.ensures.is
-    ∙ sym (progression_length (numbers g.F.Field g.F.PrimeField) g.F.Field.laws g.F.PrimeField.numbered g.met.F.PrimeField.numbers c.args.self)

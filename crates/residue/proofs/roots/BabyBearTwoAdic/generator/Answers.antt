@@ -1,6 +1,0 @@
-use Rattle.std.proofs.Common.{◌∙◌}
-use Rattle.residue.specs.Moduli.{residues_nat}
-use Rattle.residue.proofs.roots.BabyBearTwoAdic.generator.Goals as goal
-
-pub returns : goal.returns
-returns c = c.from_u32.ensures ∙ residues_nat 31

@@ -1,6 +1,0 @@
-use Rattle.std.proofs.Common.{ℕ, ◌<◌, ◌≤◌}
-use Rattle.walk.specs.Table.{ZeroIn}
-use Rattle.walk.proofs.failing_constraint.Given as goal
-
-abbrev pub invariant-loop-constraint : goal.invariant-loop-constraint
-invariant-loop-constraint g l = (k : ℕ) → l.from ≤ k → k < l.constraint → ZeroIn g.F.Field.ops l.rows l.ends l.row k

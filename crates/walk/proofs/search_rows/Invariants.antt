@@ -1,6 +1,0 @@
-use Rattle.std.proofs.Common.{ℕ, ◌<◌}
-use Rattle.walk.specs.Table.{Clear}
-use Rattle.walk.proofs.search_rows.Given as goal
-
-abbrev pub invariant-loop-row : goal.invariant-loop-row
-invariant-loop-row g l = (i : ℕ) → i < l.row → Clear g.F.Field.ops l.rows l.ends i
