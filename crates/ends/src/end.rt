@@ -65,17 +65,17 @@ impl<R, P> End<R, P> {
     }
 }
 
-impl<R> End<R, Start> {
-    // What a refusal of the constraint phase makes of the end.
-    fn stopped(shape: StarkShape, failure: StarkTranscriptFailure) -> Stopped<End<R, Start>>
-        ensures { result ≡ stopped_by shape failure }
-    {
-        match failure {
-            StarkTranscriptFailure::PublicCount => Stopped::Refused(End::of(shape), failure),
-            _ => Stopped::Ended(failure),
-        }
+// What a refusal of the constraint phase makes of the end.
+fn halt<R>(shape: StarkShape, failure: StarkTranscriptFailure) -> Stopped<End<R, Start>>
+    ensures { result ≡ stopped_by shape failure }
+{
+    match failure {
+        StarkTranscriptFailure::PublicCount => Stopped::Refused(End::of(shape), failure),
+        _ => Stopped::Ended(failure),
     }
+}
 
+impl<R> End<R, Start> {
     pub fn new<S: Sponge>(sponge: &mut S, shape: StarkShape) -> End<R, Start>
         ensures end { result.shape ≡ shape }
         ensures left { sponge.new ≡ takes S.steps (seed shape) sponge.old }
@@ -94,10 +94,8 @@ impl<R> End<R, Start> {
         ensures left { sponge.new ≡ constraint_left S.steps E.draws self.shape (sent F.numbered input.entry) sponge.old }
     {
         let shape = self.shape();
-        let alpha = constraint_phase::<S, F, E>(shape, sponge, input).map_err(|failure| End::<
-            R,
-            Start,
-        >::stopped(shape, failure))?;
+        let passed = constraint_phase::<S, F, E>(shape, sponge, input);
+        let alpha = passed.map_err(|failure| halt(shape, failure))?;
         Ok((End::of(shape), alpha))
     }
 }
