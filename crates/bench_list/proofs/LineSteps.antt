@@ -8,7 +8,7 @@ large_if true number e = e
 large_if false number e = refl
 
 -- digits only make a number larger
-too_large : (n : ℕ) (bs : List ℕ) → 2 ^ 32 ≤ n → small (decimal_after n bs) ≡ None
+pub too_large : (n : ℕ) (bs : List ℕ) → 2 ^ 32 ≤ n → small (decimal_after n bs) ≡ None
 too_large n [] h = ap (λ t. cond t (Some n) None) (le-ltb n (2 ^ 32) h)
 too_large n (b ∷ bs) h = large_if (digit b) _ (too_large (n * 10 + (b - 48)) bs (omega arith))
 

@@ -51,8 +51,7 @@ pub fn count_breaks(rows: &[u32]) -> usize
 fn count_falls(rows: &[u32]) -> usize
     ensures { result ≡ breaks_below rows.now (length rows.now) }
 {
-    rows.iter()
-        .zip(rows.iter().skip(1))
-        .filter(|(before, number)| number <= before)
-        .count()
+    (0..rows.len())
+        .map(|row| usize::from(!rises(rows, row)))
+        .sum()
 }

@@ -1,6 +1,7 @@
 // A bench list, from its text to its rows.
-ghost use Rattle.std.specs.Prelude.{◌≡◌, ◌+◌, ◌^◌, ◌<◌, ◌≤◌, length, IfOk, Some};
-ghost use Rattle.bench_list.specs.Lines.{lines_of, line_of};
+ghost use Rattle.std.specs.Prelude.{◌≡◌, ◌+◌, ◌^◌, ◌<◌, ◌≤◌, drop, length, IfOk, Some};
+ghost use Rattle.std.specs.List.{before_first};
+ghost use Rattle.bench_list.specs.Lines.{newline, lines_of, line_of};
 ghost use Rattle.bench_list.specs.Reading.{Read, reading, Stepped, fault_text};
 
 use crate::lines;
@@ -39,10 +40,24 @@ pub fn read_list(text: &[u8], rows: &mut [u32]) -> Result<usize, ListFault>
     ensures within { IfOk result (λ count. count ≤ length rows.old) }
 {
     let mut count = 0;
-    for (index, line) in text.split(|b| *b == b'\n').enumerate() {
+    let mut index = 0;
+    let mut at = 0;
+    while at <= text.len() {
+        let line = line_at(text, at);
         count = take_line(line, index, rows, count)?;
+        at += line.len() + 1;
+        index += 1;
     }
     Ok(count)
+}
+
+// The line that begins at `at`, without its newline.
+#[tactic(auto, using(crate::proofs::ReadSteps::end_within))]
+fn line_at(text: &[u8], at: usize) -> &[u8]
+    requires { at ≤ length text.now }
+    ensures { result.now ≡ before_first newline (drop at text.now) }
+{
+    &text[at..lines::line_end(text, at)]
 }
 
 // The line after `index` others, of which a row goes to the place `count`; answers how many rows there are then.

@@ -1,15 +1,21 @@
-use Rattle.std.proofs.Common.{◌∙◌, rules, tests}
-use Rattle.std.proofs.lemmas.Iterator.{YieldsList-from_slice, YieldsList-from_zip}
-use Rattle.std.proofs.lemmas.Iterator.Adapters.{YieldsList-from_skip}
-use Rattle.std.proofs.lemmas.Iterator.Consumers.{YieldsList-at, YieldsList-from_filter, count_from_yields_List}
-use Rattle.std.proofs.lemmas.List.Sums.{length-filter}
-use Rattle.bench_list.proofs.RisingSteps.{falls, pairs, falls_counted}
+use Rattle.std.proofs.Common.{◌^◌, ◌<◌, length, map, ◌∙◌, rules, tests, arith}
+use Rattle.std.specs.List.{sum, range_with_len}
+use Rattle.std.proofs.lemmas.Iterator.{YieldsList-from_range, YieldsList-from_map}
+use Rattle.std.proofs.lemmas.Iterator.Consumers.{sum_from_yields_List, fits_from_yields_list}
+use Rattle.bench_list.proofs.RisingSteps.{one_break, rows_counted, few_breaks}
 use Rattle.bench_list.proofs.breaks.count_falls.Goals as goal
+
+pub sum-requires-clause-fits : goal.sum-requires-clause-fits
+sum-requires-clause-fits c =
+    let xs = c.args.rows.now in
+    let few : sum (map (one_break xs) (range_with_len 0 (length xs))) < 2 ^ 64 = omega (arith, rows_counted xs (length xs), few_breaks xs (length xs)) in
+    fits_from_yields_list c.map.result _
+    (YieldsList-from_map _ (one_break xs) (YieldsList-from_range 0 (length xs) (length xs) c.map.ensures.source (omega arith)) c.map.ensures.closure (λ x r q k. search (rules, tests)))
+    few
 
 pub returns : goal.returns
 returns c =
     let xs = c.args.rows.now in
-    let after = YieldsList-at c.zip.ensures.second (YieldsList-from_skip 1 (YieldsList-at c.skip.ensures.source (YieldsList-from_slice xs cc)) c.skip.ensures.count) in
-    let road = YieldsList-at c.filter.ensures.source (YieldsList-from_zip (YieldsList-at c.zip.ensures.first (YieldsList-from_slice xs cc)) after) in
-    count_from_yields_List c.filter.result _ c.count.ensures.ran (YieldsList-from_filter _ falls road c.filter.ensures.closure (λ x r q k. search (rules, tests)))
-    ∙ length-filter falls (pairs xs) ∙ falls_counted xs
+    sum_from_yields_List c.map.result _ c.sum.ensures.ran
+    (YieldsList-from_map _ (one_break xs) (YieldsList-from_range 0 (length xs) (length xs) c.map.ensures.source (omega arith)) c.map.ensures.closure (λ x r q k. search (rules, tests)))
+    ∙ rows_counted xs (length xs)

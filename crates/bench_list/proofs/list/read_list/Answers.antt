@@ -1,40 +1,19 @@
-use Rattle.std.proofs.Common.{Ok, rules, tests}
-use Rattle.std.proofs.lemmas.Iterator.Consumers.{YieldsList-turn, YieldsList-end}
-use Rattle.std.proofs.lemmas.List.{length_push}
+use Rattle.std.proofs.Common.{Ok, arith}
 use Rattle.std.proofs.lemmas.Result.{err_from_is_err_and}
-use Rattle.bench_list.specs.Lines.{lines_of}
-use Rattle.bench_list.proofs.ReadSteps.{line_taken, lines_ended, numbered}
+use Rattle.bench_list.proofs.ReadSteps.{line_within, line_taken, lines_ended}
 use Rattle.bench_list.proofs.list.read_list.Goals as goal
 
-pub returns-in_err-count-clause-read : goal.returns-in_err-count-clause-read
-returns-in_err-count-clause-read c =
-    let cut = c.split.ensures in
-    let made = c.enumerate-index-items.ensures in
+pub returns-in_err-count : goal.returns-in_err-count
+returns-in_err-count c =
     let p = err_from_is_err_and c.from_residual.result c.from_residual.ensures.1 in
-    rw (p.1, p.2) (line_taken _ _ _ _ (lines_of c.args.text.now) _ _ _ _ _
-    (YieldsList-turn
-    (numbered _ c.args.text.now cut.rest cut.done cut.closure (λ x b q k. search (rules, tests)) made.source made.count c.into_iter-index-iterator.ensures.into_iter_gives)
-    _ _ c.loop-index.yielded_by _ _ _ c.in-Some.is c.next.ensures.steps)
-    c.loop-index.invariant.2 c.in_err-count.ensures)
+    rw (p.1, p.2) (record { read = line_taken _ _ _ _ _ c.args.text.now c.loop-at.at _ _ _ c.loop-at-test.true c.line_at-line.ensures c.loop-at.invariant.2 c.in_err-count.ensures; within = tt })
 
-pub loop-index-preserved : goal.loop-index-preserved
-loop-index-preserved c =
-    let cut = c.split.ensures in
-    let made = c.enumerate-index-items.ensures in (
-      search rules,
-      search rules,
-      rw (length_push c.loop-index.yielded (c.in-Some.index, c.in-Some.line)) (line_taken _ _ _ _ (lines_of c.args.text.now) _ _ _ (Ok c.in_ok-count.count) _
-          (YieldsList-turn
-          (numbered _ c.args.text.now cut.rest cut.done cut.closure (λ x b q k. search (rules, tests)) made.source made.count c.into_iter-index-iterator.ensures.into_iter_gives)
-          _ _ c.loop-index.yielded_by _ _ _ c.in-Some.is c.next.ensures.steps)
-          c.loop-index.invariant.2 c.in_ok-count.ensures),
-    )
+pub loop-at-preserved : goal.loop-at-preserved
+loop-at-preserved c = (
+  omega (arith, line_within c.args.text.now c.loop-at.at c.line_at-line.result.now c.loop-at-test.true c.line_at-line.ensures),
+  omega (arith, c.loop-at.invariant.1),
+  line_taken _ _ _ _ _ c.args.text.now c.loop-at.at _ (Ok c.in_ok-count.count) _ c.loop-at-test.true c.line_at-line.ensures c.loop-at.invariant.2 c.in_ok-count.ensures,
+)
 
-pub returns-clause-read : goal.returns-clause-read
-returns-clause-read c =
-    let cut = c.split.ensures in
-    let made = c.enumerate-index-items.ensures in
-    let ended = YieldsList-end
-    (numbered _ c.args.text.now cut.rest cut.done cut.closure (λ x b q k. search (rules, tests)) made.source made.count c.into_iter-index-iterator.ensures.into_iter_gives)
-    _ _ c.loop-index.yielded_by _ _ c.in-None.is c.next.ensures.steps in
-    lines_ended _ _ _ _ (lines_of c.args.text.now) _ ended.1 c.loop-index.invariant.2
+pub returns : goal.returns
+returns c = record { read = lines_ended _ _ _ _ _ c.args.text.now _ c.loop-at-test.false c.loop-at.invariant.2; within = c.loop-at.invariant.2.few }
