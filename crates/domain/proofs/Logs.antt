@@ -24,6 +24,10 @@ log_some n k (suc count) b e = by_test (log_some n (suc k) count b) (eqb n (2 ^ 
         record { is = eqb-true n (2 ^ k) is ∙ ap (λ m. 2 ^ m) same; below = omega arith }
     by_test later false is f = let rest = later f in record { is = rest.is; below = omega (arith, rest.below) }
 
+-- a logarithm that is found is within the bound
+pub log_most : (most fits n b : ℕ) (r : Option ℕ) → most ≡ fits → r ≡ log_within most n → r ≡ Some b → b ≤ fits
+log_most most fits n b r is at found = let log = log_some n 0 (suc most) b (sym at ∙ found) in omega (arith, log.below, is)
+
 pub log_none : (n k count : ℕ) → log_from n k count ≡ None → (b : ℕ) → k ≤ b → b < k + count → n ≢ 2 ^ b
 log_none n k zero e b from to is = omega arith
 log_none n k (suc count) e b from to is = by_test (log_none n (suc k) count) (eqb n (2 ^ k)) refl e

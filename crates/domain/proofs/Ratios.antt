@@ -1,5 +1,5 @@
 -- Products over the points of a domain. Assumes nothing.
-use Rattle.std.proofs.Common.{◌≡◌, ℕ, suc, ◌+◌, ◌-◌, ◌<◌, List, [], ◌∷◌, map, length, zero, Some, None, Option, refl, ap, ◌∙◌, arith}
+use Rattle.std.proofs.Common.{◌≡◌, ℕ, suc, ◌+◌, ◌-◌, ◌<◌, ◌≤◌, List, [], ◌∷◌, map, length, zero, Some, None, Option, sym, refl, ap, ◌∙◌, ap₂, arith}
 use Rattle.algebra.specs.Ring.{RingOps, sub}
 use Rattle.algebra.specs.Field.{FieldLaws, or_zero, total}
 use Rattle.algebra.specs.Domain.{vanishing}
@@ -29,6 +29,30 @@ module _ {F E : Type 0} (base : FieldMeaning F) (over : ExtensionMeaning E F) wh
   pub later_all : (xs : List F) → later base over xs 0 (length xs) ≡ map over.embedded xs
   later_all [] = refl
   later_all (x ∷ xs) = ap (λ ps. over.embedded x ∷ ps) (later_tail x xs 0 (length xs) ∙ later_all xs)
+
+-- factor by factor: what is taken, times the product over the points from number i on and before number `to`, is the whole
+module _ {F E : Type 0} (base : FieldMeaning F) (above : FieldMeaning E) (over : ExtensionMeaning E F) (points : List F) (to : ℕ) where
+  abbrev o : RingOps E
+  o = above.ops
+
+  abbrev rest : ℕ → E → E
+  rest i x = vanishing o (later base over points i (to - i)) x
+
+  pub first_taken : (i : ℕ) (x d : E) → i < to → d ≡ sub o x (raised base over points i) → o.mul d (rest (i + 1) x) ≡ rest i x
+  first_taken i x d less is = ap (λ y. o.mul y (rest (i + 1) x)) is ∙ sym (ap (λ ps. vanishing o ps x) (later_next base over points i to less))
+
+  pub next_taken : (i : ℕ) (x v d w whole : E) → i < to → d ≡ sub o x (raised base over points i) → w ≡ o.mul v d → o.mul v (rest i x) ≡ whole
+      → o.mul w (rest (i + 1) x) ≡ whole
+  next_taken i x v d w whole less is product so_far =
+      ap (λ y. o.mul y (rest (i + 1) x)) product
+      ∙ above.laws.ring.mul_assoc v d (rest (i + 1) x)
+      ∙ ap (o.mul v) (first_taken i x d less is)
+      ∙ so_far
+
+  all_taken : (i : ℕ) (x v whole : E) → to ≤ i → o.mul v (rest i x) ≡ whole → v ≡ whole
+  all_taken i x v whole past so_far =
+      let none : to - i ≡ 0 = omega arith in
+      sym (above.laws.ring.mul_one v) ∙ ap (o.mul v) (sym (ap (λ ps. vanishing o ps x) (later_none base over points i (to - i) none))) ∙ so_far
 
 module _ {R : Type 0} {ops : RingOps R} {inverse : R → Option R} (laws : FieldLaws ops inverse) where
   open ops use {zero as 𝟘, one as 𝟙, mul as ◌⊗◌}
@@ -62,3 +86,13 @@ module _ {R : Type 0} {ops : RingOps R} {inverse : R → Option R} (laws : Field
       let j = total ops inverse (vanishing ops ps a) in
       ap (λ w. u ⊗ v ⊗ w) (inv_mul (sub ops a p) (vanishing ops ps a))
       ∙ ring_from laws.ring (u ∷ v ∷ i ∷ j ∷ basis ops (total ops inverse) a ps z ∷ []) (i ⊗ u · basis_ratio a ps z) (search shapes depth 20) tt
+
+module _ {F E : Type 0} (base : FieldMeaning F) (above : FieldMeaning E) (over : ExtensionMeaning E F) (points : List F) (from to : ℕ) (a z : E) where
+  -- where no point is left, what is taken at z over what is taken at a
+  pub ratio_taken : (i : ℕ) (v w : E) → to ≤ i
+      → above.ops.mul v (vanishing above.ops (later base over points i (to - i)) z) ≡ vanishing above.ops (later base over points from (to - from)) z
+      → above.ops.mul w (vanishing above.ops (later base over points i (to - i)) a) ≡ vanishing above.ops (later base over points from (to - from)) a
+      → above.ops.mul v (total above.ops above.inverted w) ≡ basis above.ops (total above.ops above.inverted) a (later base over points from (to - from)) z
+  ratio_taken i v w past at_z at_a =
+      ap₂ (λ x y. above.ops.mul x (total above.ops above.inverted y)) (all_taken base above over points to i z v _ past at_z) (all_taken base above over points to i a w _ past at_a)
+      ∙ basis_ratio above.laws a (later base over points from (to - from)) z

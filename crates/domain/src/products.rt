@@ -22,10 +22,23 @@ pub fn vanishing<D: Points>(d: D, from: usize, to: usize, z: D::Ext) -> D::Ext
     value
 }
 
-// The product of (z - p) / (a - p) over these points.
-#[tactic(auto, using(crate::proofs::Ratios::basis_ratio))]
+// The product of (z - p) / (a - p) over these points, by one inverse.
+// Inlined: the a of most callers is an embedded point, and what is zero in it then costs nothing.
+#[inline(always)]
+#[tactic(auto, using(crate::proofs::Ratios::ratio_taken))]
 pub fn basis<D: Points>(d: D, a: D::Ext, from: usize, to: usize, z: D::Ext) -> D::Ext
     ensures { result ≡ basis D.Ext.Field.ops (total D.Ext.Field.ops D.Ext.Field.inverted) a (later D.Base.Field.own D.Ext.Extension.own (D.Points.points d) from (to - from)) z }
 {
-    vanishing(d, from, to, z) * powers::inverse_or_zero(vanishing(d, from, to, a))
+    if from >= to {
+        return <D::Ext as Field>::one();
+    }
+    let first = <D::Ext as Extension<D::Base>>::embed(d.point(from));
+    let mut above = z - first;
+    let mut below = a - first;
+    for i in from + 1..to {
+        let point = <D::Ext as Extension<D::Base>>::embed(d.point(i));
+        above = above * (z - point);
+        below = below * (a - point);
+    }
+    above * powers::inverse_or_zero(below)
 }

@@ -1,6 +1,5 @@
 // Progressions are domains.
 ghost use Rattle.std.specs.Prelude.{◌≡◌, ◌^◌, ◌<◌, ◌≢◌, ◌≤◌, Some};
-ghost use Rattle.domain.specs.Logarithm.{log_within};
 ghost use Rattle.progressions.specs.Fitting.{fitting};
 ghost use Rattle.progressions.specs.Progression.{made, placed, natural_of, or_one, term as term_at, terms, points_of, first_of, last_of, transition_of, following_of, beside_of, pieces_of};
 ghost use Rattle.progressions.specs.Laws.Progression.{progression_distinct, progression_doubled, progression_separate, progression_parted, progression_unparted};
@@ -57,27 +56,8 @@ fn at<F: PrimeField, E: Copy>(start: F, step: F, bits: u32) -> Progression<F, E>
     }
 }
 
-// Absent where the step is zero, or 2^bits points are more than 1,024 or more than F has.
-fn made<F: PrimeField, E: Copy>(start: F, step: F, bits: u32) -> Option<Progression<F, E>>
-    ensures { result ≡ made start step bits }
-{
-    if step == F::zero() {
-        return None;
-    }
-    if bits > most_bits::<F>() {
-        return None;
-    }
-    Some(at(start, step, bits))
-}
-
-// The logarithm of a size that a progression can have.
-fn log_size<F: PrimeField>(size: usize) -> Option<u32>
-    ensures { result ≡ log_within (fitting F.PrimeField.modulus 10) size }
-{
-    powers::log_within(most_bits::<F>(), size)
-}
-
 // start + i * step, for i below the size. Absent where the step is zero, or the size is no power of two, above 1,024 or above F's.
+#[tactic(auto, using(domain::proofs::Logs::log_most, crate::specs::Laws::Progression::found_points))]
 pub fn progression<F: PrimeField, E: Extension<F>>(
     start: F,
     step: F,
@@ -86,15 +66,21 @@ pub fn progression<F: PrimeField, E: Extension<F>>(
     ensures value { result ≡ placed start step size }
     ensures points { (d : _) → result ≡ Some d → points_of d ≡ terms F.Field.ops start step 0 size }
 {
-    let bits = log_size::<F>(size)?;
-    made(start, step, bits)
+    if step == F::zero() {
+        return None;
+    }
+    let bits = powers::log_within(most_bits::<F>(), size)?;
+    Some(at(start, step, bits))
 }
 
 // 0, 1, 2 and so on, 2^bits points. Absent where these are more than 1,024 or more than F has.
 pub fn natural<F: PrimeField, E: Extension<F>>(bits: u32) -> Option<Progression<F, E>>
     ensures { result ≡ natural_of bits }
 {
-    made(F::zero(), F::one(), bits)
+    if bits > most_bits::<F>() {
+        return None;
+    }
+    Some(at(F::zero(), F::one(), bits))
 }
 
 // 1 at the first point, and 0 at the others.

@@ -114,7 +114,7 @@ module _ {F : Type 0} (prime : PrimeMeaning F) (field : FieldMeaning F) (named :
       pub step : e.step ≡ x
       pub bits : e.bits ≡ b
 
-    made_is : (a x : F) (b : ℕ) (e : Progression F E prime field eqs adds subs muls negs) → made a x b ≡ Some e → Made e a x b
+    pub made_is : (a x : F) (b : ℕ) (e : Progression F E prime field eqs adds subs muls negs) → made a x b ≡ Some e → Made e a x b
     made_is a x b e = by_tests (dec_zero laws x) (dec_le b (fitting modulus 10))
       where
         by_tests : (z : Dec (x ≡ 𝟘)) (w : Dec (b ≤ fitting modulus 10)) → made_by a x b z w ≡ Some e → Made e a x b
@@ -127,7 +127,7 @@ module _ {F : Type 0} (prime : PrimeMeaning F) (field : FieldMeaning F) (named :
             record { start = sym (ap start_in f); step = sym (ap step_in f); bits = sym (ap bits_in f) }
 
     -- the points of what is made
-    made_points : (a x : F) (b : ℕ) (e : Progression F E prime field eqs adds subs muls negs) → made a x b ≡ Some e → points_of e ≡ terms ops a x 0 (2 ^ b)
+    pub made_points : (a x : F) (b : ℕ) (e : Progression F E prime field eqs adds subs muls negs) → made a x b ≡ Some e → points_of e ≡ terms ops a x 0 (2 ^ b)
     made_points a x b e f =
         let found = made_is a x b e f in
         ap₂ (λ c y. terms ops c y 0 (2 ^ e.bits)) found.start found.step ∙ ap (λ m. terms ops a x 0 (2 ^ m)) found.bits
@@ -139,6 +139,12 @@ module _ {F : Type 0} (prime : PrimeMeaning F) (field : FieldMeaning F) (named :
         by_log : (l : Option ℕ) → log_within (fitting modulus 10) size ≡ l → placed_by a s l ≡ Some d → points_of d ≡ terms ops a s 0 size
         by_log None at f = let z : ◌≡◌ {A = ℕ} 0 1 = cc in absurd (omega arith)
         by_log (Some b) at f = made_points a s b d f ∙ ap (terms ops a s 0) (sym (log_some size 0 (suc (fitting modulus 10)) b at).is)
+
+    -- what is made for a size whose logarithm is found
+    pub found_points : (a s : F) (most size b : ℕ) (r : Option ℕ) (e d : Progression F E prime field eqs adds subs muls negs) → r ≡ log_within most size → r ≡ Some b → Some e ≡ made a s b → Some e ≡ Some d
+        → points_of d ≡ terms ops a s 0 size
+    found_points a s most size b r e d at found made_is same =
+        made_points a s b d (sym made_is ∙ same) ∙ ap (terms ops a s 0) (sym (log_some size 0 (suc most) b (sym at ∙ found)).is)
 
     pub progression_length : (d : Progression F E prime field eqs adds subs muls negs) → length (points_of d) ≡ 2 ^ d.bits
     progression_length d = length_terms ops d.start d.step 0 (2 ^ d.bits)
