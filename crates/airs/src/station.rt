@@ -7,7 +7,8 @@ ghost use Rattle.expression.specs.Expression.{meaning};
 use air::builder::{Air, AirBuilder, Layout, Rows, assert_bools};
 use field::traits::Field;
 
-// The number that the bits write, the lowest first.
+// The number that the bits write, the lowest first. Inlined, so that it is not formed where nothing reads it, and its coefficients are numbers to the compiler.
+#[inline(always)]
 fn byte<R: Rows>(rows: &R) -> R::Expr
     ensures { result ≡ meaning R.Expr.Algebra.operations (R.reads rows.now) the_byte }
 {
