@@ -2,7 +2,7 @@
 use Rattle.std.proofs.Common.{◌≡◌, ℕ, zero, suc, ◌<◌, ◌≤◌, Bool, true, false, Some, None, Option, sym, refl, ap, subst, ap₂, ⊎_elim, le_of_suc-le-suc, eq-or-lt_of_le, MatchOption, arith}
 use Rattle.transcript.specs.Phases.{first_of, least}
 
-least_hit : (p : ℕ → Bool) (n m : ℕ) → least p n ≡ None → p n ≡ true → n < m → least p m ≡ Some n
+pub least_hit : (p : ℕ → Bool) (n m : ℕ) → least p n ≡ None → p n ≡ true → n < m → least p m ≡ Some n
 least_hit p n zero none passes below = absurd (omega arith)
 least_hit p n (suc m) none passes below =
     ⊎_elim (λ (e : n ≡ m). subst (λ k. least p (suc k) ≡ Some n) e (ap₂ (λ o b. first_of o b n) none passes)) (λ (h : n < m). ap (λ o. first_of o (p m) m) (least_hit p n m none passes h)) (eq-or-lt_of_le (le_of_suc-le-suc below))
