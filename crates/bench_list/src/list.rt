@@ -42,6 +42,7 @@ pub fn read_list(text: &[u8], rows: &mut [u32]) -> Result<usize, ListFault>
     let mut count = 0;
     let mut index = 0;
     let mut at = 0;
+    // By place, so that each line ends where `line_end` says; a split of the text took half as long again on many short lines.
     while at <= text.len() {
         let line = line_at(text, at);
         count = take_line(line, index, rows, count)?;
